@@ -1,5 +1,5 @@
 -- What `clap` found, by its rows.
-use Rattle.std.proofs.Common.{◌≡◌, ◌∙◌, ℕ, Bool, true, false, List, [], Option, Some, None, IfSome, refl, sym, ap, codes}
+use Rattle.std.proofs.Common.{◌≡◌, ◌≤◌, ◌∙◌, ℕ, Bool, true, false, List, [], Option, Some, None, IfSome, refl, sym, ap, codes, arith}
 use Rattle.std.specs.Prelude.{option_and_then, option_map, unwrap_or}
 use Rattle.std.specs.Str.{bytes_eq}
 use Rattle.std.proofs.lemmas.Slice.Eq.{bytes_eq-Decides}
@@ -11,7 +11,9 @@ use Rattle.spv_verdicts.specs.Verdicts.{Limits}
 use Rattle.spv_reports.specs.Reports.{default_limits}
 use Rattle.spv_cli.specs.Commands.{Command, ModeRow, command_if, command_in, command_named, command_with, files_in, given_or, is_true, limits_in, mode_named, proofs_in}
 use Rattle.spv_cli.specs.declared.words.ModeRow.{ModeRow as Row}
-use Rattle.spv_cli.specs.Words.{IsBoolText}
+use Rattle.spv_cli.specs.declared.words.Verb.{Verb}
+use Rattle.spv_cli.specs.declared.words.Verb.TheVariants as verb
+use Rattle.spv_cli.specs.Words.{AreEnough, IsBoolText}
 
 pub flag_is : (o : Option (List ℕ)) (flag : Bool) → IfSome o IsBoolText → (o ≡ None → flag ≡ false) → (o ≡ Some (codes "true") → flag ≡ true) → (o ≡ Some (codes "false") → flag ≡ false) → flag ≡ is_true o
 flag_is None flag h none set unset = none refl
@@ -70,10 +72,10 @@ same_either_way x y e = by_case (bytes_eq y x) refl
     by_case false f = refl
 
 -- a word that is none of the modes'
-pub none_named : (word : List ℕ) → bytes_eq word (codes "verify") ≡ false → bytes_eq word (codes "simplify") ≡ false → bytes_eq word (codes "conditions") ≡ false → bytes_eq word (codes "drill") ≡ false
+pub none_named : (word : List ℕ) → bytes_eq word (codes "verify") ≡ false → bytes_eq word (codes "simplify") ≡ false → bytes_eq word (codes "check") ≡ false → bytes_eq word (codes "conditions") ≡ false → bytes_eq word (codes "drill") ≡ false
     → ◌≡◌ {A = Option Row} None (option_map (λ (m : ModeRow). record { fewest = m.fewest; most = m.most; verb = m.verb }) (mode_named word))
-none_named word a b c d =
-    rw (same_either_way word (codes "verify") a, same_either_way word (codes "simplify") b, same_either_way word (codes "conditions") c, same_either_way word (codes "drill") d) refl
+none_named word a b c d e =
+    rw (same_either_way word (codes "verify") a, same_either_way word (codes "simplify") b, same_either_way word (codes "check") c, same_either_way word (codes "conditions") d, same_either_way word (codes "drill") e) refl
 
 abbrev row_of : ModeRow → Row
 row_of m = record { fewest = m.fewest; most = m.most; verb = m.verb }
@@ -96,3 +98,11 @@ module _ (word : List ℕ) (l : Limits) (proofs : Bool) (files : List (List ℕ)
       by_case : (o : Option ModeRow) → ◌≡◌ {A = Option Row} None (option_map row_of o) → None ≡ option_and_then (λ m. command_with m l proofs files) o
       by_case None h = refl
       by_case (Some m) h = absurd (cc)
+
+-- more words are enough where fewer are
+pub enough_more : (v : Verb) (m n : ℕ) → AreEnough v m → m ≤ n → AreEnough v n
+enough_more verb.Verify m n h k = omega (arith, h, k)
+enough_more verb.Simplify m n h k = omega (arith, h, k)
+enough_more verb.Check m n h k = omega (arith, h, k)
+enough_more verb.Conditions m n h k = omega (arith, h, k)
+enough_more verb.Drill m n h k = omega (arith, h, k)

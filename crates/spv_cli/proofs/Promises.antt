@@ -9,7 +9,7 @@ use Rattle.spv_meaning.specs.Correct.{Correct}
 use Rattle.spv_reports.specs.declared.mode.Mode.{Mode}
 use Rattle.spv_verdicts.specs.declared.answers.verdicts.Decided.{Decided}
 use Rattle.spv_reports.specs.declared.mode.Mode.TheVariants as mode
-use Rattle.spv_reports.specs.Reports.{AreVerdictsIn, Findings, IsReport, IsReportOn, has_verdicts, all_proved, none_unproved}
+use Rattle.spv_reports.specs.Reports.{AreVerdictsIn, Findings, IsReport, IsReportOn, has_verdicts, all_proved, none_fails}
 use Rattle.spv_reports.proofs.Reports.{proved_correct}
 use Rattle.spv_listing.specs.Page.{page}
 use Rattle.spv_verify.specs.declared.refused.refusal.Refusal.{Refusal}
@@ -42,10 +42,11 @@ found_status (Reporting r) = by_mode r.mode
     by_verdicts false false = refl
 
     by_mode : (m : Mode) → IsOneOf (0 ∷ 1 ∷ 2 ∷ 3 ∷ 4 ∷ 8 ∷ []) (status_in m r.verdicts)
-    by_mode (mode.Verify limits) = by_verdicts (all_proved r.verdicts) (none_unproved r.verdicts)
-    by_mode (mode.Simplify limits) = by_verdicts (all_proved r.verdicts) (none_unproved r.verdicts)
+    by_mode (mode.Verify limits) = by_verdicts (all_proved r.verdicts) (none_fails (mode.Verify limits) r.verdicts)
+    by_mode (mode.Simplify limits) = by_verdicts (all_proved r.verdicts) (none_fails (mode.Simplify limits) r.verdicts)
+    by_mode mode.Check = by_verdicts (all_proved r.verdicts) (none_fails mode.Check r.verdicts)
     by_mode mode.Conditions = refl
-    by_mode (mode.Drill load limits) = by_verdicts (all_proved r.verdicts) (none_unproved r.verdicts)
+    by_mode (mode.Drill load limits) = by_verdicts (all_proved r.verdicts) (none_fails (mode.Drill load limits) r.verdicts)
 
 -- the status of a page
 page_found : (m : Mode) (verdicts : List Decided) → IsOneOf (0 ∷ 1 ∷ 2 ∷ 8 ∷ []) (status_in m verdicts)
@@ -57,10 +58,11 @@ page_found m verdicts = by_mode m
     by_verdicts false false = refl
 
     by_mode : (m : Mode) → IsOneOf (0 ∷ 1 ∷ 2 ∷ 8 ∷ []) (status_in m verdicts)
-    by_mode (mode.Verify limits) = by_verdicts (all_proved verdicts) (none_unproved verdicts)
-    by_mode (mode.Simplify limits) = by_verdicts (all_proved verdicts) (none_unproved verdicts)
+    by_mode (mode.Verify limits) = by_verdicts (all_proved verdicts) (none_fails (mode.Verify limits) verdicts)
+    by_mode (mode.Simplify limits) = by_verdicts (all_proved verdicts) (none_fails (mode.Simplify limits) verdicts)
+    by_mode mode.Check = by_verdicts (all_proved verdicts) (none_fails mode.Check verdicts)
     by_mode mode.Conditions = refl
-    by_mode (mode.Drill load limits) = by_verdicts (all_proved verdicts) (none_unproved verdicts)
+    by_mode (mode.Drill load limits) = by_verdicts (all_proved verdicts) (none_fails (mode.Drill load limits) verdicts)
 
 -- another status
 not_of : (numbers : List ℕ) {s t : ℕ} → IsOneOf numbers s → s ≡ t → IsOneOf numbers t
@@ -84,17 +86,18 @@ at_zero o c (Reporting r) is e = by_mode r.mode refl e
     by_verdicts false false e = absurd (false≢true (not_of (1 ∷ []) refl e))
 
     by_mode : (m : Mode) → r.mode ≡ m → status_in m r.verdicts ≡ 0 → IsProvedReport r
-    by_mode (mode.Verify limits) same e = (ap has_verdicts same, by_verdicts (all_proved r.verdicts) (none_unproved r.verdicts) e)
-    by_mode (mode.Simplify limits) same e = (ap has_verdicts same, by_verdicts (all_proved r.verdicts) (none_unproved r.verdicts) e)
-    by_mode (mode.Drill load limits) same e = (ap has_verdicts same, by_verdicts (all_proved r.verdicts) (none_unproved r.verdicts) e)
+    by_mode (mode.Verify limits) same e = (ap has_verdicts same, by_verdicts (all_proved r.verdicts) (none_fails (mode.Verify limits) r.verdicts) e)
+    by_mode (mode.Simplify limits) same e = (ap has_verdicts same, by_verdicts (all_proved r.verdicts) (none_fails (mode.Simplify limits) r.verdicts) e)
+    by_mode mode.Check same e = (ap has_verdicts same, by_verdicts (all_proved r.verdicts) (none_fails mode.Check r.verdicts) e)
+    by_mode (mode.Drill load limits) same e = (ap has_verdicts same, by_verdicts (all_proved r.verdicts) (none_fails (mode.Drill load limits) r.verdicts) e)
     by_mode mode.Conditions same e = absurd (false≢true (not_of (8 ∷ []) refl e))
 
 -- what stands in a report with status 1, with status 2, and with status 8
 abbrev pub IsUnprovedReport : Findings → Type 0
-IsUnprovedReport r = (has_verdicts r.mode ≡ true) × (none_unproved r.verdicts ≡ false)
+IsUnprovedReport r = (has_verdicts r.mode ≡ true) × (none_fails r.mode r.verdicts ≡ false)
 
 abbrev pub IsGivenUpReport : Findings → Type 0
-IsGivenUpReport r = (has_verdicts r.mode ≡ true) × (none_unproved r.verdicts ≡ true) × (all_proved r.verdicts ≡ false)
+IsGivenUpReport r = (has_verdicts r.mode ≡ true) × (none_fails r.mode r.verdicts ≡ true) × (all_proved r.verdicts ≡ false)
 
 abbrev pub IsListReport : Findings → Type 0
 IsListReport r = (has_verdicts r.mode ≡ false) × (r.verdicts ≡ [])
@@ -109,10 +112,14 @@ at_one o c (Reporting r) is e = by_mode r.mode refl e
     by_verdicts false true e = absurd (false≢true (not_of (2 ∷ []) refl e))
     by_verdicts false false e = refl
 
+    failing : {m : Mode} → r.mode ≡ m → none_fails r.mode r.verdicts ≡ none_fails m r.verdicts
+    failing same = ap (λ (k : Mode). none_fails k r.verdicts) same
+
     by_mode : (m : Mode) → r.mode ≡ m → status_in m r.verdicts ≡ 1 → IsUnprovedReport r
-    by_mode (mode.Verify limits) same e = (ap has_verdicts same, by_verdicts (all_proved r.verdicts) (none_unproved r.verdicts) e)
-    by_mode (mode.Simplify limits) same e = (ap has_verdicts same, by_verdicts (all_proved r.verdicts) (none_unproved r.verdicts) e)
-    by_mode (mode.Drill load limits) same e = (ap has_verdicts same, by_verdicts (all_proved r.verdicts) (none_unproved r.verdicts) e)
+    by_mode (mode.Verify limits) same e = (ap has_verdicts same, failing same ∙ by_verdicts (all_proved r.verdicts) (none_fails (mode.Verify limits) r.verdicts) e)
+    by_mode (mode.Simplify limits) same e = (ap has_verdicts same, failing same ∙ by_verdicts (all_proved r.verdicts) (none_fails (mode.Simplify limits) r.verdicts) e)
+    by_mode mode.Check same e = (ap has_verdicts same, failing same ∙ by_verdicts (all_proved r.verdicts) (none_fails mode.Check r.verdicts) e)
+    by_mode (mode.Drill load limits) same e = (ap has_verdicts same, failing same ∙ by_verdicts (all_proved r.verdicts) (none_fails (mode.Drill load limits) r.verdicts) e)
     by_mode mode.Conditions same e = absurd (false≢true (not_of (8 ∷ []) refl e))
 
 at_two : (o : Reading) (c : Command) (f : Found) → IsFound o c f → status f ≡ 2 → IsThere (report f) IsGivenUpReport
@@ -125,10 +132,14 @@ at_two o c (Reporting r) is e = by_mode r.mode refl e
     by_verdicts false true e = (refl, refl)
     by_verdicts false false e = absurd (false≢true (not_of (1 ∷ []) refl e))
 
+    failing : {m : Mode} → r.mode ≡ m → none_fails r.mode r.verdicts ≡ none_fails m r.verdicts
+    failing same = ap (λ (k : Mode). none_fails k r.verdicts) same
+
     by_mode : (m : Mode) → r.mode ≡ m → status_in m r.verdicts ≡ 2 → IsGivenUpReport r
-    by_mode (mode.Verify limits) same e = let k = by_verdicts (all_proved r.verdicts) (none_unproved r.verdicts) e in (ap has_verdicts same, k.0, k.1)
-    by_mode (mode.Simplify limits) same e = let k = by_verdicts (all_proved r.verdicts) (none_unproved r.verdicts) e in (ap has_verdicts same, k.0, k.1)
-    by_mode (mode.Drill load limits) same e = let k = by_verdicts (all_proved r.verdicts) (none_unproved r.verdicts) e in (ap has_verdicts same, k.0, k.1)
+    by_mode (mode.Verify limits) same e = let k = by_verdicts (all_proved r.verdicts) (none_fails (mode.Verify limits) r.verdicts) e in (ap has_verdicts same, failing same ∙ k.0, k.1)
+    by_mode (mode.Simplify limits) same e = let k = by_verdicts (all_proved r.verdicts) (none_fails (mode.Simplify limits) r.verdicts) e in (ap has_verdicts same, failing same ∙ k.0, k.1)
+    by_mode mode.Check same e = let k = by_verdicts (all_proved r.verdicts) (none_fails mode.Check r.verdicts) e in (ap has_verdicts same, failing same ∙ k.0, k.1)
+    by_mode (mode.Drill load limits) same e = let k = by_verdicts (all_proved r.verdicts) (none_fails (mode.Drill load limits) r.verdicts) e in (ap has_verdicts same, failing same ∙ k.0, k.1)
     by_mode mode.Conditions same e = absurd (false≢true (not_of (8 ∷ []) refl e))
 
 at_eight : (o : Reading) (c : Command) (f : Found) → IsFound o c f → status f ≡ 8 → IsThere (report f) IsListReport
@@ -141,10 +152,11 @@ at_eight o c (Reporting r) is e = by_mode r.mode refl is.1.is_on.verdicts e
     by_verdicts false true e = false≢true (not_of (2 ∷ []) refl e)
     by_verdicts false false e = false≢true (not_of (1 ∷ []) refl e)
 
-    by_mode : (m : Mode) → r.mode ≡ m → AreVerdictsIn m (rules_in r.rules) r.arena r.conditions r.verdicts → status_in m r.verdicts ≡ 8 → IsListReport r
-    by_mode (mode.Verify limits) same right e = absurd (by_verdicts (all_proved r.verdicts) (none_unproved r.verdicts) e)
-    by_mode (mode.Simplify limits) same right e = absurd (by_verdicts (all_proved r.verdicts) (none_unproved r.verdicts) e)
-    by_mode (mode.Drill load limits) same right e = absurd (by_verdicts (all_proved r.verdicts) (none_unproved r.verdicts) e)
+    by_mode : (m : Mode) → r.mode ≡ m → AreVerdictsIn m r.listing (rules_in r.rules) r.named r.arena r.conditions r.verdicts → status_in m r.verdicts ≡ 8 → IsListReport r
+    by_mode (mode.Verify limits) same right e = absurd (by_verdicts (all_proved r.verdicts) (none_fails (mode.Verify limits) r.verdicts) e)
+    by_mode (mode.Simplify limits) same right e = absurd (by_verdicts (all_proved r.verdicts) (none_fails (mode.Simplify limits) r.verdicts) e)
+    by_mode mode.Check same right e = absurd (by_verdicts (all_proved r.verdicts) (none_fails mode.Check r.verdicts) e)
+    by_mode (mode.Drill load limits) same right e = absurd (by_verdicts (all_proved r.verdicts) (none_fails (mode.Drill load limits) r.verdicts) e)
     by_mode mode.Conditions same right e = (ap has_verdicts same, right)
 
 pub map_there : {X : Type 0} (o : Option X) {P Q : X → Type 0} → IsThere o P → ((x : X) → P x → Q x) → IsThere o Q
@@ -154,16 +166,16 @@ map_there (Some x) h f = f x h
 -- ---- a text is not refused and reported
 
 abbrev HasRefusal : TextKind → Sources → Type 0
-HasRefusal kind s = (w : Which) × (r : Refusal) × IsRefused kind s.text s.rules w r
+HasRefusal kind s = (w : Which) × (r : Refusal) × IsRefused kind s.text s.rules s.listing w r
 
 abbrev IsUnrefused : TextKind → Sources → Type 0
-IsUnrefused kind s = (w : Which) (r : Refusal) → IsRefused kind s.text s.rules w r → ⊥
+IsUnrefused kind s = (w : Which) (r : Refusal) → IsRefused kind s.text s.rules s.listing w r → ⊥
 
-never_told : HaveNotBoth → (kind : TextKind) (told : Option Sources) (f : Findings) → IfSome told (λ s. IsReportOf kind s.text s.rules f) → IsThere told (HasRefusal kind) → ⊥
+never_told : HaveNotBoth → (kind : TextKind) (told : Option Sources) (f : Findings) → IfSome told (λ s. IsReportOf kind s.text s.rules s.listing f) → IsThere told (HasRefusal kind) → ⊥
 never_told never kind None f is h = h
-never_told never kind (Some s) f is (w, r, h) = never kind s.text s.rules f w r is h
+never_told never kind (Some s) f is (w, r, h) = never kind s.text s.rules s.listing f w r is h
 
-not_refused : (kind : TextKind) (told : Option Sources) (w : Which) (r : Refusal) → IfSome told (λ s. IsRefused kind s.text s.rules w r) → IsThere told (IsUnrefused kind) → ⊥
+not_refused : (kind : TextKind) (told : Option Sources) (w : Which) (r : Refusal) → IfSome told (λ s. IsRefused kind s.text s.rules s.listing w r) → IsThere told (IsUnrefused kind) → ⊥
 not_refused kind None w r is h = h
 not_refused kind (Some s) w r is h = h w r is
 
@@ -297,7 +309,7 @@ module _ (o : Reading) (w : Writing) (ran : Ran) where
   listed = by_status 8 IsListReport false≢true (at_eight o)
 
   -- what is true of each report that is found is true of the report
-  of_report : (Q : Command → Findings → Type 0) → ((d : Command) (r : Findings) → IsReport r → r.mode ≡ d.mode → r.proofs ≡ d.proofs → IfSome (sources o.told d) (λ s. IsReportOf (kind_of d.mode) s.text s.rules r) → Q d r)
+  of_report : (Q : Command → Findings → Type 0) → ((d : Command) (r : Findings) → IsReport r → r.mode ≡ d.mode → r.proofs ≡ d.proofs → IfSome (sources o.told d) (λ s. IsReportOf (kind_of d.mode) s.text s.rules s.listing r) → Q d r)
       → (c : Option Command) → HasRunFor c o w ran → IfSome ran.report (λ r. IsThere c (λ d. Q d r))
   of_report Q of = by_case (λ c. IfSome ran.report (λ r. IsThere c (λ d. Q d r)))
       (λ unread none s written. if_same _ none tt)
@@ -314,8 +326,8 @@ module _ (o : Reading) (w : Writing) (ran : Ran) where
       found d (Refusing file r) is = tt
       found d (Reporting r) (read, report, same, proofs, told) = of d r report same proofs told
 
-  pub of_text : (c : Option Command) → HasRunFor c o w ran → IfSome ran.report (λ r. IsThere c (λ d. IfSome (sources o.told d) (λ s. IsReportOf (kind_of d.mode) s.text s.rules r)))
-  of_text = of_report (λ d r. IfSome (sources o.told d) (λ s. IsReportOf (kind_of d.mode) s.text s.rules r)) (λ d r report same proofs told. told)
+  pub of_text : (c : Option Command) → HasRunFor c o w ran → IfSome ran.report (λ r. IsThere c (λ d. IfSome (sources o.told d) (λ s. IsReportOf (kind_of d.mode) s.text s.rules s.listing r)))
+  of_text = of_report (λ d r. IfSome (sources o.told d) (λ s. IsReportOf (kind_of d.mode) s.text s.rules s.listing r)) (λ d r report same proofs told. told)
 
   pub same_mode : (c : Option Command) → HasRunFor c o w ran → IfSome ran.report (λ r. IsThere c (λ d. r.mode ≡ d.mode))
   same_mode = of_report (λ d r. r.mode ≡ d.mode) (λ d r report same proofs told. same)
@@ -324,9 +336,9 @@ module _ (o : Reading) (w : Writing) (ran : Ran) where
   same_proofs = of_report (λ d r. r.proofs ≡ d.proofs) (λ d r report same proofs told. proofs)
 
   -- verdicts are right within the limits of the words
-  pub right_verdicts : (c : Option Command) → HasRunFor c o w ran → IfSome ran.report (λ r. IsThere c (λ d. AreVerdictsIn d.mode (rules_in r.rules) r.arena r.conditions r.verdicts))
-  right_verdicts = of_report (λ d r. AreVerdictsIn d.mode (rules_in r.rules) r.arena r.conditions r.verdicts)
-      (λ d r report same proofs told. subst (λ (m : Mode). AreVerdictsIn m (rules_in r.rules) r.arena r.conditions r.verdicts) same report.is_on.verdicts)
+  pub right_verdicts : (c : Option Command) → HasRunFor c o w ran → IfSome ran.report (λ r. IsThere c (λ d. AreVerdictsIn d.mode r.listing (rules_in r.rules) r.named r.arena r.conditions r.verdicts))
+  right_verdicts = of_report (λ d r. AreVerdictsIn d.mode r.listing (rules_in r.rules) r.named r.arena r.conditions r.verdicts)
+      (λ d r report same proofs told. subst (λ (m : Mode). AreVerdictsIn m r.listing (rules_in r.rules) r.named r.arena r.conditions r.verdicts) same report.is_on.verdicts)
 
   pub correct : (c : Option Command) → HasRunFor c o w ran → ran.status ≡ 0
       → IsThere ran.report (λ r. (world : Meaning) (p : Program) → IsReportOn p r → RulesHold (shapes p) p.symbols world (rules_in r.rules) → Correct p world)
@@ -346,7 +358,7 @@ module _ (o : Reading) (w : Writing) (ran : Ran) where
       (λ d f is r s cut e. absurd (false≢true (not_of (5 ∷ []) refl (sym s ∙ e))))
       (λ d m e. absurd (false≢true (not_of (6 ∷ []) refl (sym m.status ∙ e))))
     where
-      of : (kind : TextKind) (told : Option Sources) (r : Findings) → has_verdicts r.mode ≡ true → all_proved r.verdicts ≡ true → IfSome told (λ s. IsReportOf kind s.text s.rules r)
+      of : (kind : TextKind) (told : Option Sources) (r : Findings) → has_verdicts r.mode ≡ true → all_proved r.verdicts ≡ true → IfSome told (λ s. IsReportOf kind s.text s.rules s.listing r)
           → IfSome told (IsCorrectUnder kind)
       of kind None r same proved is = tt
       of kind (Some s) r same proved is = λ world p rules of_text are hold.
@@ -404,9 +416,10 @@ module _ (o : Reading) (w : Writing) (ran : Ran) where
       by_verdicts false false = refl
 
       by_mode : (m : Mode) (verdicts : List Decided) → IsOneOf (0 ∷ 1 ∷ 2 ∷ 6 ∷ 8 ∷ []) (status_in m verdicts)
-      by_mode (mode.Verify limits) verdicts = by_verdicts (all_proved verdicts) (none_unproved verdicts)
-      by_mode (mode.Simplify limits) verdicts = by_verdicts (all_proved verdicts) (none_unproved verdicts)
-      by_mode (mode.Drill load limits) verdicts = by_verdicts (all_proved verdicts) (none_unproved verdicts)
+      by_mode (mode.Verify limits) verdicts = by_verdicts (all_proved verdicts) (none_fails (mode.Verify limits) verdicts)
+      by_mode (mode.Simplify limits) verdicts = by_verdicts (all_proved verdicts) (none_fails (mode.Simplify limits) verdicts)
+      by_mode mode.Check verdicts = by_verdicts (all_proved verdicts) (none_fails mode.Check verdicts)
+      by_mode (mode.Drill load limits) verdicts = by_verdicts (all_proved verdicts) (none_fails (mode.Drill load limits) verdicts)
       by_mode mode.Conditions verdicts = refl
 
       found : (c : Command) (f : Found) → IsFound o c f → IsThere (sources o.told c) (IsUnrefused (kind_of c.mode)) → DidNotRise o.faults_before o.faults_after
@@ -446,9 +459,10 @@ module _ (o : Reading) (w : Writing) (ran : Ran) where
       by_verdicts false false = refl
 
       by_mode : (m : Mode) (verdicts : List Decided) → IsOneOf (0 ∷ 1 ∷ 2 ∷ 3 ∷ 4 ∷ 5 ∷ 6 ∷ 7 ∷ 8 ∷ []) (status_in m verdicts)
-      by_mode (mode.Verify limits) verdicts = by_verdicts (all_proved verdicts) (none_unproved verdicts)
-      by_mode (mode.Simplify limits) verdicts = by_verdicts (all_proved verdicts) (none_unproved verdicts)
-      by_mode (mode.Drill load limits) verdicts = by_verdicts (all_proved verdicts) (none_unproved verdicts)
+      by_mode (mode.Verify limits) verdicts = by_verdicts (all_proved verdicts) (none_fails (mode.Verify limits) verdicts)
+      by_mode (mode.Simplify limits) verdicts = by_verdicts (all_proved verdicts) (none_fails (mode.Simplify limits) verdicts)
+      by_mode mode.Check verdicts = by_verdicts (all_proved verdicts) (none_fails mode.Check verdicts)
+      by_mode (mode.Drill load limits) verdicts = by_verdicts (all_proved verdicts) (none_fails (mode.Drill load limits) verdicts)
       by_mode mode.Conditions verdicts = refl
 
       found : (f : Found) → IsOneOf (0 ∷ 1 ∷ 2 ∷ 3 ∷ 4 ∷ 5 ∷ 6 ∷ 7 ∷ 8 ∷ []) (status f)
@@ -470,9 +484,10 @@ module _ (o : Reading) (w : Writing) (ran : Ran) where
       by_verdicts false false = refl
 
       by_mode : (m : Mode) (verdicts : List Decided) → IsOneOf (0 ∷ 1 ∷ 2 ∷ 5 ∷ 8 ∷ []) (status_in m verdicts)
-      by_mode (mode.Verify limits) verdicts = by_verdicts (all_proved verdicts) (none_unproved verdicts)
-      by_mode (mode.Simplify limits) verdicts = by_verdicts (all_proved verdicts) (none_unproved verdicts)
-      by_mode (mode.Drill load limits) verdicts = by_verdicts (all_proved verdicts) (none_unproved verdicts)
+      by_mode (mode.Verify limits) verdicts = by_verdicts (all_proved verdicts) (none_fails (mode.Verify limits) verdicts)
+      by_mode (mode.Simplify limits) verdicts = by_verdicts (all_proved verdicts) (none_fails (mode.Simplify limits) verdicts)
+      by_mode mode.Check verdicts = by_verdicts (all_proved verdicts) (none_fails mode.Check verdicts)
+      by_mode (mode.Drill load limits) verdicts = by_verdicts (all_proved verdicts) (none_fails (mode.Drill load limits) verdicts)
       by_mode mode.Conditions verdicts = refl
 
       found : (f : Found) → IsSome (report f) → IsOneOf (0 ∷ 1 ∷ 2 ∷ 5 ∷ 8 ∷ []) (status f)

@@ -8,7 +8,7 @@ use Rattle.clap.specs.Simple.{matches_of}
 use Rattle.clap.specs.Faults.{fault_of}
 use Rattle.spv_verdicts.specs.Verdicts.{Limits}
 use Rattle.spv_reports.specs.declared.mode.Mode.{Mode}
-use Rattle.spv_reports.specs.declared.mode.Mode.TheVariants.{Verify, Simplify, Conditions, Drill}
+use Rattle.spv_reports.specs.declared.mode.Mode.TheVariants.{Verify, Simplify, Check, Conditions, Drill}
 use Rattle.spv_reports.specs.declared.mode.Load.{Load}
 use Rattle.spv_reports.specs.Reports.{default_limits}
 use Rattle.spv_cli.specs.declared.words.Verb.{Verb}
@@ -28,6 +28,7 @@ abbrev pub modes : List ModeRow
 modes =
     record { word = codes "verify"; fewest = 1; most = 2; verb = verb.Verify }
     ∷ record { word = codes "simplify"; fewest = 1; most = 2; verb = verb.Simplify }
+    ∷ record { word = codes "check"; fewest = 2; most = 3; verb = verb.Check }
     ∷ record { word = codes "conditions"; fewest = 1; most = 1; verb = verb.Conditions }
     ∷ record { word = codes "drill"; fewest = 2; most = 2; verb = verb.Drill }
     ∷ []
@@ -66,7 +67,8 @@ files_in rows = unwrap_or (all_of (codes "files") rows) []
 
 -- ---- commands
 
--- what is asked, whether its page has proofs, and of which files: the program or the formula comes first, a rule file behind it
+-- what is asked, whether its page has proofs, and of which files: the program or the formula comes first, then a listing where one is asked of, and
+-- then maybe a rule file
 pub record Command : Type 0 where
   pub mode : Mode
   pub proofs : Bool
@@ -107,6 +109,7 @@ with_files mode proofs files = record { mode = mode; proofs = proofs; files = fi
 abbrev pub command_for : Verb → Limits → Bool → List (List ℕ) → Option Command
 command_for verb.Verify limits proofs files = Some (with_files (Verify limits) proofs files)
 command_for verb.Simplify limits proofs files = Some (with_files (Simplify limits) proofs files)
+command_for verb.Check limits proofs files = Some (with_files Check proofs files)
 command_for verb.Conditions limits proofs files = Some (with_files Conditions proofs files)
 command_for verb.Drill limits proofs files = option_map (λ load. with_files (Drill load limits) proofs []) (load_in files)
 

@@ -9,7 +9,7 @@ use Rattle.spv_verify.specs.declared.refused.refusal.Refusal.{Refusal}
 use Rattle.spv_verify.specs.declared.refused.fault.Which.{Which}
 use Rattle.spv_verify.specs.declared.refused.fault.Which.TheVariants as which
 use Rattle.spv_reports.specs.declared.mode.Mode.{Mode}
-use Rattle.spv_reports.specs.declared.mode.Mode.TheVariants.{Drill}
+use Rattle.spv_reports.specs.declared.mode.Mode.TheVariants.{Verify, Simplify, Check, Conditions, Drill}
 use Rattle.spv_verify.specs.texts.Trees.{kind_of}
 use Rattle.spv_verify.specs.Refusals.{IsRefused, IsReportOf}
 use Rattle.spv_cli.specs.declared.found.Found.{Found}
@@ -91,43 +91,56 @@ pub record IsUnwritten (w : Writing) : Type 0 where
 
 -- ---- what is found, and what is due then
 
--- the texts that a command asks of: a program or a formula, and maybe a rule file
+-- the texts that a command asks of: a program or a formula, and maybe a rule file and a listing
 pub record Sources : Type 0 where
   pub text : List ℕ
   pub rules : Option (List ℕ)
+  pub listing : Option (List ℕ)
 
-abbrev pub alone : List ℕ → Sources
-alone text = record { text = text; rules = None }
+abbrev pub ruled_by : List ℕ → Option (List ℕ) → Sources
+ruled_by text rules = record { text = text; rules = rules; listing = None }
 
-abbrev pub ruled_by : List ℕ → List ℕ → Sources
-ruled_by text rules = record { text = text; rules = Some rules }
+-- what is told of all these files, where it is told of each
+abbrev pub told_of : (List ℕ → Option (List ℕ)) → List (List ℕ) → Option (List (List ℕ))
+told_of told [] = Some []
+told_of told (file ∷ files) = option_and_then (λ text. option_map (λ texts. text ∷ texts) (told_of told files)) (told file)
 
--- what is told of files, where it is told of both
-abbrev pub told_of : (List ℕ → Option (List ℕ)) → List (List ℕ) → Option Sources
-told_of told [] = None
-told_of told (file ∷ []) = option_map alone (told file)
-told_of told (file ∷ rules ∷ others) = option_and_then (λ text. option_map (ruled_by text) (told rules)) (told file)
+-- the texts of a command, where these are those of its files: the one that it generates, or those; the program or the formula stands first, in the
+-- mode `Check` a listing behind it, and then maybe a rule file
+abbrev pub sources_in : Mode → List (List ℕ) → Option Sources
+sources_in (Drill load limits) texts = Some (ruled_by (drill_text load) None)
+sources_in Check (text ∷ listing ∷ texts) = Some (record { text = text; rules = slice_get texts 0; listing = Some listing })
+sources_in (Verify limits) (text ∷ texts) = Some (ruled_by text (slice_get texts 0))
+sources_in (Simplify limits) (text ∷ texts) = Some (ruled_by text (slice_get texts 0))
+sources_in Conditions (text ∷ texts) = Some (ruled_by text (slice_get texts 0))
+sources_in _ _ = None
 
--- the texts of a command: the one that it generates, or what is told of its files
-abbrev pub sources_for : (List ℕ → Option (List ℕ)) → Mode → List (List ℕ) → Option Sources
-sources_for told (Drill load limits) files = Some (alone (drill_text load))
-sources_for told _ files = told_of told files
-
+-- those of what is told of its files, where it is told of each
 abbrev pub sources : (List ℕ → Option (List ℕ)) → Command → Option Sources
-sources told c = sources_for told c.mode c.files
+sources told c = option_and_then (sources_in c.mode) (told_of told c.files)
 
--- the name by which a text is told: that of its file; a generated one has none, and a rule file always has
-abbrev pub name_of : List (List ℕ) → Which → List ℕ
-name_of files which.Program = unwrap_or (slice_get files 0) (codes "DRILL")
-name_of files which.Rules = unwrap_or (slice_get files 1) (codes "RULES")
+-- where a rule file stands among the files
+abbrev pub rules_place : Mode → ℕ
+rules_place Check = 2
+rules_place _ = 1
+
+-- the name by which a text is told: that of its file; a generated one has none, and a rule file and a listing always have
+abbrev pub name_at : List (List ℕ) → ℕ → Which → List ℕ
+name_at files rules which.Program = unwrap_or (slice_get files 0) (codes "DRILL")
+name_at files rules which.Rules = unwrap_or (slice_get files rules) (codes "RULES")
+name_at files rules which.Listing = unwrap_or (slice_get files 1) (codes "LISTING")
+
+abbrev pub name_of : Command → Which → List ℕ
+name_of c w = name_at c.files (rules_place c.mode) w
 
 -- one of the texts that a command asks of, which is told by this name, is refused so, where they are told
 abbrev pub IsRefusedIn : (List ℕ → Option (List ℕ)) → Command → List ℕ → Refusal → Type 0
-IsRefusedIn told c file r = (w : Which) × (file ≡ name_of c.files w) × IfSome (sources told c) (λ s. IsRefused (kind_of c.mode) s.text s.rules w r)
+IsRefusedIn told c file r = (w : Which) × (file ≡ name_of c w) × IfSome (sources told c) (λ s. IsRefused (kind_of c.mode) s.text s.rules s.listing w r)
 
--- a command that asks of a file has one
+-- a command that asks of files has those that it asks of
 abbrev pub HasSource : Mode → ℕ → Type 0
 HasSource (Drill load limits) n = ⊤
+HasSource Check n = 1 < n
 HasSource _ n = 0 < n
 
 -- what is found of the files of a command: this one cannot be read; or one of the texts that it asks of is refused so; or it has this report, which is
@@ -136,7 +149,7 @@ abbrev pub IsFound : Reading → Command → Found → Type 0
 IsFound o c (ReadFailed file) = IsReadBadly o c.files file.now
 IsFound o c (Refusing file r) = AreReadWhole o c.files × IsRefusedIn o.told c file.now r
 IsFound o c (Reporting r) =
-    AreReadWhole o c.files × IsReport r × (r.mode ≡ c.mode) × (r.proofs ≡ c.proofs) × IfSome (sources o.told c) (λ s. IsReportOf (kind_of c.mode) s.text s.rules r)
+    AreReadWhole o c.files × IsReport r × (r.mode ≡ c.mode) × (r.proofs ≡ c.proofs) × IfSome (sources o.told c) (λ s. IsReportOf (kind_of c.mode) s.text s.rules s.listing r)
 
 abbrev pub output : Found → List ℕ
 output (ReadFailed file) = read_fault_line file.now

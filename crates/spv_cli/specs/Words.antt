@@ -10,9 +10,19 @@ use Rattle.spv_cli.specs.Arguments.{most_splits, most_instances, most_pivots}
 use Rattle.spv_cli.specs.declared.drill.Procedure.{Procedure as Made}
 use Rattle.spv_cli.specs.Drill.{Procedure}
 use Rattle.spv_cli.specs.Commands.{Command}
+use Rattle.spv_cli.specs.declared.words.Verb.{Verb}
+use Rattle.spv_cli.specs.declared.words.Verb.TheVariants.{Verify, Simplify, Check, Conditions, Drill}
 
 abbrev pub command_view : Words → Command
 command_view c = record { mode = c.mode; proofs = c.proofs; files = map (λ file. file.now) c.files.items }
+
+-- so many words FILES name all that is asked of
+abbrev pub AreEnough : Verb → ℕ → Type 0
+AreEnough Verify n = 0 < n
+AreEnough Simplify n = 0 < n
+AreEnough Check n = 1 < n
+AreEnough Conditions n = 0 < n
+AreEnough Drill n = 0 < n
 
 -- where this option is given, its text is a number from 0 to `most`
 abbrev pub IsLimit : Found → List ℕ → ℕ → Type 0

@@ -2,7 +2,7 @@
 use Rattle.std.specs.Prelude.{◌≡◌, ℕ, Bool, true, false, List, [], ◌∷◌, Option, Some, None, codes}
 use Rattle.spv_verdicts.specs.Verdicts.{Limits}
 use Rattle.spv_reports.specs.declared.mode.Mode.{Mode}
-use Rattle.spv_reports.specs.declared.mode.Mode.TheVariants.{Verify, Simplify, Conditions}
+use Rattle.spv_reports.specs.declared.mode.Mode.TheVariants.{Verify, Simplify, Check, Conditions}
 use Rattle.spv_reports.specs.Reports.{default_limits}
 use Rattle.spv_cli.specs.Commands.{Command, command_of}
 
@@ -32,6 +32,14 @@ abbrev pub RulesBehind : Type 0
 RulesBehind =
     (called (codes "verify" ∷ codes "a.pas" ∷ codes "b.rules" ∷ []) ≡ asks_both (Verify default_limits) (codes "a.pas") (codes "b.rules"))
     × (called (codes "simplify" ∷ codes "a.fml" ∷ codes "b.rules" ∷ []) ≡ asks_both (Simplify default_limits) (codes "a.fml") (codes "b.rules"))
+
+-- a listing stands behind the program, and behind both a rule file; limits and proofs may be asked for, and change nothing
+abbrev pub ListingBehind : Type 0
+ListingBehind =
+    (called (codes "check" ∷ codes "a.pas" ∷ codes "a.lst" ∷ []) ≡ asks_both Check (codes "a.pas") (codes "a.lst"))
+    × (called (codes "check" ∷ codes "a.pas" ∷ codes "a.lst" ∷ codes "b.rules" ∷ [])
+    ≡ Some (record { mode = Check; proofs = false; files = codes "a.pas" ∷ codes "a.lst" ∷ codes "b.rules" ∷ [] }))
+    × (called (codes "check" ∷ codes "a.pas" ∷ codes "a.lst" ∷ codes "--splits" ∷ codes "3" ∷ []) ≡ asks_both Check (codes "a.pas") (codes "a.lst"))
 
 abbrev pub ConditionsAlone : Type 0
 ConditionsAlone = called (codes "conditions" ∷ codes "a.pas" ∷ []) ≡ asks Conditions false (codes "a.pas")
@@ -67,6 +75,12 @@ ManyFiles =
     (called (codes "verify" ∷ codes "a.pas" ∷ codes "b.rules" ∷ codes "c.rules" ∷ []) ≡ None)
     × (called (codes "simplify" ∷ codes "a.fml" ∷ codes "b.rules" ∷ codes "c.rules" ∷ []) ≡ None)
     × (called (codes "conditions" ∷ codes "a.pas" ∷ codes "b.rules" ∷ []) ≡ None)
+
+-- a program alone has no proofs to check
+abbrev pub NoListing : Type 0
+NoListing =
+    (called (codes "check" ∷ codes "a.pas" ∷ []) ≡ None)
+    × (called (codes "check" ∷ codes "a.pas" ∷ codes "a.lst" ∷ codes "b.rules" ∷ codes "c.rules" ∷ []) ≡ None)
 
 -- a word that begins with `-` is an option, and has to be one of the four
 abbrev pub OtherOption : Type 0

@@ -1,6 +1,6 @@
 // What is found of a command's files, and what is due then.
 
-ghost use Rattle.std.specs.Prelude.{◌≡◌, ◌<◌, IfErr, IfOk, OnErr, drop, length, map, slice_get};
+ghost use Rattle.std.specs.Prelude.{◌≡◌, ◌<◌, IfErr, IfOk, OnErr, Some, length, map, slice_get};
 ghost use Rattle.std.specs.Option.{option_copied};
 ghost use Rattle.spv_reports.specs.Reports.{IsReport};
 ghost use Rattle.spv_verify.specs.Causes.{IsCause};
@@ -17,7 +17,7 @@ use crate::output::{read_fault_line, refusal_line};
 use crate::reading::{Gathered, read_files};
 use crate::words::Command;
 use spv_io::Texts;
-use spv_reports::{Decided, Mode, Report, all_proved, none_unproved};
+use spv_reports::{Decided, Mode, Report, all_proved, none_fails};
 use spv_verify::refused::{Refusal, VerifyFault, Which};
 use spv_verify::report_of;
 use std::alloc::{AllocError, Global};
@@ -41,31 +41,49 @@ fn report_with(
     proofs: bool,
     text: &[u8],
     rules: Option<&[u8]>,
+    listing: Option<&[u8]>,
 ) -> Result<Report, VerifyFault>
-    ensures report { IfOk result (IsReportOf (kind_of mode) text.now (option_copied rules.entry)) }
+    ensures report { IfOk result (IsReportOf (kind_of mode) text.now (option_copied rules.entry) (option_copied listing.entry)) }
     ensures mode { IfOk result (λ r. r.mode ≡ mode) }
     ensures proofs { IfOk result (λ r. r.proofs ≡ proofs) }
     ensures findings { IfOk result IsReport }
-    ensures cause { IfErr result (IsCause (kind_of mode) text.now (option_copied rules.entry)) }
+    ensures cause { IfErr result (IsCause (kind_of mode) text.now (option_copied rules.entry) (option_copied listing.entry)) }
 {
-    match report_of(alloc, text, rules, mode) {
+    match report_of(alloc, text, rules, listing, mode) {
         Ok(report) => Ok(report.with_proofs(proofs)),
         Err(fault) => Err(fault),
     }
 }
 
-// The name by which a text is told.
-fn name_of<'a>(files: &[&'a str], which: Which) -> &'a str
-    ensures { result.now ≡ spec.name_of (map (λ file. file.now) files.now) which }
+// Where a rule file stands among the files.
+fn rules_place(mode: &Mode) -> usize
+    ensures { result ≡ spec.rules_place mode.now }
+{
+    match mode {
+        Mode::Verify(_) => 1,
+        Mode::Simplify(_) => 1,
+        Mode::Check => 2,
+        Mode::Conditions => 1,
+        Mode::Drill(_, _) => 1,
+    }
+}
+
+// The name by which a text is told, where a rule file stands at this place.
+fn name_at<'a>(files: &[&'a str], rules: usize, which: Which) -> &'a str
+    ensures { result.now ≡ spec.name_at (map (λ file. file.now) files.now) rules which }
 {
     match which {
         Which::Program => match files.first() {
             Some(file) => file,
             None => "DRILL",
         },
-        Which::Rules => match files.get(1) {
+        Which::Rules => match files.get(rules) {
             Some(file) => file,
             None => "RULES",
+        },
+        Which::Listing => match files.get(1) {
+            Some(file) => file,
+            None => "LISTING",
         },
     }
 }
@@ -76,31 +94,40 @@ fn look<'a>(
     command: Command<'a>,
     text: &[u8],
     rules: Option<&[u8]>,
+    listing: Option<&[u8]>,
 ) -> Result<Found<'a>, AllocError>
-    ensures { IfOk result (IsTextFound (command_view command.entry) text.now (option_copied rules.entry)) }
+    ensures { IfOk result (IsTextFound (command_view command.entry) (record { text = text.now; rules = option_copied rules.entry; listing = option_copied listing.entry })) }
 {
     let Command {
         mode,
         proofs,
         files,
     } = command;
-    match report_with(alloc, mode, proofs, text, rules) {
+    let place = rules_place(&mode);
+    match report_with(alloc, mode, proofs, text, rules, listing) {
         Ok(report) => Ok(Found::Reporting(report)),
         Err(VerifyFault::Refused(which, refusal)) => {
-            let name = name_of(files.as_slice(), which);
+            let name = name_at(files.as_slice(), place, which);
             Ok(Found::Refusing(name, refusal))
         }
         Err(VerifyFault::Memory) => Err(AllocError),
     }
 }
 
-// The rule file, where two files were read.
-fn rules_of(read: &[Vec<u8>]) -> Option<&[u8]>
-    requires { 0 < length read.now }
-    ensures { option_copied result ≡ slice_get (drop 1 (map (λ text. text.items) read.now)) 0 }
+// The text that was read of the file at this place, which there is.
+fn text_at(read: &[Vec<u8>], place: usize) -> &[u8]
+    requires { place < length read.now }
+    ensures { slice_get (map (λ text. text.items) read.now) place ≡ Some result.now }
 {
-    match read.get(1) {
-        Some(rules) => Some(rules.as_slice()),
+    read[place].as_slice()
+}
+
+// The text that was read of the file at this place, where there is one.
+fn text_after(read: &[Vec<u8>], place: usize) -> Option<&[u8]>
+    ensures { option_copied result ≡ slice_get (map (λ text. text.items) read.now) place }
+{
+    match read.get(place) {
+        Some(text) => Some(text.as_slice()),
         None => None,
     }
 }
@@ -117,11 +144,15 @@ fn look_at<'a>(
     match &command.mode {
         Mode::Drill(load, _) => {
             let text = drill_text(alloc, *load)?;
-            look(alloc, command, text.as_slice(), None)
+            look(alloc, command, text.as_slice(), None, None)
         }
-        Mode::Verify(_) | Mode::Simplify(_) | Mode::Conditions => {
-            look(alloc, command, read[0].as_slice(), rules_of(read))
+        Mode::Check => {
+            let rules = text_after(read, 2);
+            look(alloc, command, text_at(read, 0), rules, Some(text_at(read, 1)))
         }
+        Mode::Verify(_) => look(alloc, command, text_at(read, 0), text_after(read, 1), None),
+        Mode::Simplify(_) => look(alloc, command, text_at(read, 0), text_after(read, 1), None),
+        Mode::Conditions => look(alloc, command, text_at(read, 0), text_after(read, 1), None),
     }
 }
 
@@ -165,12 +196,12 @@ pub(crate) fn output(alloc: Global, found: &Found<'_>) -> Result<Vec<u8>, AllocE
 }
 
 // The status of verdicts.
-fn verdict_status(verdicts: &[Decided]) -> u8
-    ensures { result ≡ due.verdict_status verdicts.now }
+fn verdict_status(mode: &Mode, verdicts: &[Decided]) -> u8
+    ensures { result ≡ due.verdict_status mode.now verdicts.now }
 {
     if all_proved(verdicts) {
         0
-    } else if none_unproved(verdicts) {
+    } else if none_fails(mode, verdicts) {
         2
     } else {
         1
@@ -182,7 +213,9 @@ fn page_status(mode: &Mode, verdicts: &[Decided]) -> u8
     ensures { result ≡ due.status_in mode.now verdicts.now }
 {
     match mode {
-        Mode::Verify(_) | Mode::Simplify(_) | Mode::Drill(_, _) => verdict_status(verdicts),
+        Mode::Verify(_) | Mode::Simplify(_) | Mode::Check | Mode::Drill(_, _) => {
+            verdict_status(mode, verdicts)
+        }
         Mode::Conditions => 8,
     }
 }

@@ -5,7 +5,7 @@ ghost use Rattle.spv_cli.specs.Gathering.{HasGathered};
 ghost use Rattle.spv_cli.specs.Runs.{AreReadInPart};
 
 use spv_io::{TextFault, Texts};
-use spv_lexer::LONGEST_TEXT;
+use spv_listing_values::LONGEST_LISTING;
 use std::alloc::{AllocError, Global};
 
 /// What reading files gives.
@@ -17,8 +17,8 @@ pub(crate) enum Gathered<'a> {
     Texts(Vec<Vec<u8>>),
 }
 
-/// The most bytes that are read of a file: one above the limit of a program.
-const MOST_BYTES: usize = LONGEST_TEXT + 1;
+/// The most bytes that are read of a file: one above the limit of a listing, which is the longest text.
+const MOST_BYTES: usize = LONGEST_LISTING + 1;
 
 /// Reads files in their order, each wholly, up to the first that cannot be read.
 pub(crate) fn read_files<'a, T: Texts>(

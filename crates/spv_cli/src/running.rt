@@ -6,7 +6,7 @@ ghost use Rattle.spv_io.specs.Sink.{added, AddsPrefix};
 ghost use Rattle.spv_meaning.specs.Correct.{Correct};
 ghost use Rattle.spv_logic.specs.Conditions.{Meaning};
 ghost use Rattle.spv_program.specs.Programs.{Program};
-ghost use Rattle.spv_reports.specs.Reports.{AreVerdictsIn, IsReport, IsReportOn, all_proved, has_verdicts, none_unproved};
+ghost use Rattle.spv_reports.specs.Reports.{AreVerdictsIn, IsReport, IsReportOn, all_proved, has_verdicts, none_fails};
 ghost use Rattle.spv_listing.specs.Page.{page};
 ghost use Rattle.spv_proof_rules.specs.Rules.{Rule, RulesHold};
 ghost use Rattle.spv_rules.specs.RuleSets.{rules_in};
@@ -175,36 +175,38 @@ pub fn run<W: World, T: Texts, K: Sink>(
         (λ c. IfSome (sources (T.told texts.old) c) (λ s. (m : Meaning) (p : Program) (rules : List Rule) → IsProgramOf (kind_of c.mode) s.text p
         → AreRulesOf (names_of s.text) p s.rules rules → RulesHold (shapes p) p.symbols m rules → Correct p m)) }
 
-    // With status 1 a condition is unproved; with 2 none is, and the search gave up on one.
-    ensures unproved { result.status ≡ 1 → IsThere result.report (λ r. IsTrue (has_verdicts r.mode) × (none_unproved r.verdicts ≡ false)) }
+    // With status 1 a verdict fails: a condition is unproved, or in the mode `Check` a proof is not accepted; with 2 none does, and some
+    // condition was given up.
+    ensures unproved { result.status ≡ 1 → IsThere result.report (λ r. IsTrue (has_verdicts r.mode) × (none_fails r.mode r.verdicts ≡ false)) }
     ensures gave_up { result.status ≡ 2 → IsThere result.report
-        (λ r. IsTrue (has_verdicts r.mode) × IsTrue (none_unproved r.verdicts) × (all_proved r.verdicts ≡ false)) }
+        (λ r. IsTrue (has_verdicts r.mode) × IsTrue (none_fails r.mode r.verdicts) × (all_proved r.verdicts ≡ false)) }
     ensures listed { result.status ≡ 8 → IsThere result.report (λ r. (has_verdicts r.mode ≡ false) × (r.verdicts ≡ [])) }
 
     // A report is that of the told texts, for what the words ask, and its conditions are those of its program. Its page has proofs where the
     // words want them.
     ensures of_text { IfSome result.report (λ r. IsThere (command_of (map string_bytes words.now))
-        (λ c. IfSome (sources (T.told texts.old) c) (λ s. IsReportOf (kind_of c.mode) s.text s.rules r))) }
+        (λ c. IfSome (sources (T.told texts.old) c) (λ s. IsReportOf (kind_of c.mode) s.text s.rules s.listing r))) }
     ensures mode { IfSome result.report (λ r. IsThere (command_of (map string_bytes words.now)) (λ c. r.mode ≡ c.mode)) }
     ensures proofs { IfSome result.report (λ r. IsThere (command_of (map string_bytes words.now)) (λ c. r.proofs ≡ c.proofs)) }
     ensures findings { IfSome result.report IsReport }
     ensures reported { IsSome result.report → IsOneOf (0 ∷ 1 ∷ 2 ∷ 5 ∷ 8 ∷ []) result.status }
 
     // Each verdict is right, within the limits of the words: what is proved has a proof that is accepted, what is unproved has a table
-    // that falsifies its condition, and where the search gave up its limit was reached.
+    // that falsifies its condition, and where the search gave up its limit was reached. In the mode `Check` each is what the checker says of
+    // the condition and of the entry of its number in the told listing.
     ensures verdicts { IfSome result.report (λ r. IsThere (command_of (map string_bytes words.now))
-        (λ c. AreVerdictsIn c.mode (rules_in r.rules) r.arena r.conditions r.verdicts)) }
+        (λ c. AreVerdictsIn c.mode r.listing (rules_in r.rules) r.named r.arena r.conditions r.verdicts)) }
 
     // Status 3 comes exactly where one of the told texts is refused, but for a failed write and want of memory.
-    ensures refused { IsTold (map string_bytes words.now) (T.told texts.old) (λ kind s. (w : Which) × (r : Refusal) × IsRefused kind s.text s.rules w r)
+    ensures refused { IsTold (map string_bytes words.now) (T.told texts.old) (λ kind s. (w : Which) × (r : Refusal) × IsRefused kind s.text s.rules s.listing w r)
         → DidNotRise (T.faults texts.old) (T.faults texts.new) → IsOneOf (3 ∷ 5 ∷ 6 ∷ []) result.status }
     ensures refusal { result.status ≡ 3 → IsThere (command_of (map string_bytes words.now))
         (λ c. (line : List ℕ) × IsRefusalLine (T.told texts.old) c line × (K.written sink.new ≡ added (K.written sink.old) line)) }
 
     // Where none of the texts is refused there is a report, but for want of memory; and one of the statuses of a report, but for a failed write.
-    ensures complete { IsTold (map string_bytes words.now) (T.told texts.old) (λ kind s. (w : Which) (r : Refusal) → IsRefused kind s.text s.rules w r → ⊥)
+    ensures complete { IsTold (map string_bytes words.now) (T.told texts.old) (λ kind s. (w : Which) (r : Refusal) → IsRefused kind s.text s.rules s.listing w r → ⊥)
         → DidNotRise (T.faults texts.old) (T.faults texts.new) → IsSome result.report ⊎ (result.status ≡ 6) }
-    ensures complete_status { IsTold (map string_bytes words.now) (T.told texts.old) (λ kind s. (w : Which) (r : Refusal) → IsRefused kind s.text s.rules w r → ⊥)
+    ensures complete_status { IsTold (map string_bytes words.now) (T.told texts.old) (λ kind s. (w : Which) (r : Refusal) → IsRefused kind s.text s.rules s.listing w r → ⊥)
         → DidNotRise (T.faults texts.old) (T.faults texts.new) → DidNotRise (K.faults sink.old) (K.faults sink.new)
         → IsOneOf (0 ∷ 1 ∷ 2 ∷ 6 ∷ 8 ∷ []) result.status }
 

@@ -6,7 +6,7 @@ ghost use Rattle.spv_cli.specs.Arguments as arguments;
 ghost use Rattle.spv_cli.specs.Commands as spec;
 ghost use Rattle.spv_cli.specs.Commands.{command_of};
 ghost use Rattle.spv_cli.specs.Runs.{HasSource};
-ghost use Rattle.spv_cli.specs.Words.{AreOptions, IsNumber, command_view};
+ghost use Rattle.spv_cli.specs.Words.{AreEnough, AreOptions, IsNumber, command_view};
 
 use clap::builder::ValueParser;
 use clap::error::ErrorKind;
@@ -111,6 +111,8 @@ pub(crate) enum Verb {
     Verify,
     /// A verdict on the one condition of a formula text.
     Simplify,
+    /// Verdicts on the proofs that a listing has of the conditions of a program.
+    Check,
     /// The conditions of a program.
     Conditions,
     /// How many of the conditions of a generated program are proved.
@@ -140,13 +142,20 @@ fn from_one(most: usize, verb: Verb) -> ModeRow
 #[tactic(auto, using(crate::proofs::ByRows::none_named))]
 fn mode_named(word: &str) -> Option<ModeRow>
     ensures row { result ≡ option_map (λ m. record { fewest = m.fewest; most = m.most; verb = m.verb }) (spec.mode_named word.now) }
-    ensures some { IfSome result (λ row. 0 < row.fewest) }
+    ensures some { IfSome result (λ row. AreEnough row.verb row.fewest) }
 {
     if word == "verify" {
         return Some(from_one(2, Verb::Verify));
     }
     if word == "simplify" {
         return Some(from_one(2, Verb::Simplify));
+    }
+    if word == "check" {
+        return Some(ModeRow {
+            fewest: 2,
+            most: 3,
+            verb: Verb::Check,
+        });
     }
     if word == "conditions" {
         return Some(from_one(1, Verb::Conditions));
@@ -242,13 +251,14 @@ fn command_for<'a>(
     proofs: bool,
     mut files: Vec<&'a str>,
 ) -> Option<Command<'a>>
-    requires { 0 < length files.items }
+    requires { AreEnough verb (length files.items) }
     ensures command { option_map command_view result ≡ spec.command_for verb limits proofs (map (λ file. file.now) files.entry.items) }
     ensures source { IfSome result (λ c. HasSource c.mode (length c.files.items)) }
 {
     let mode = match verb {
         Verb::Verify => Mode::Verify(limits),
         Verb::Simplify => Mode::Simplify(limits),
+        Verb::Check => Mode::Check,
         Verb::Conditions => Mode::Conditions,
         Verb::Drill => {
             let load = load_in(files.as_slice())?;
@@ -264,13 +274,14 @@ fn command_for<'a>(
 }
 
 // What is asked in this mode, if it takes so many FILES.
+#[tactic(auto, using(crate::proofs::ByRows::enough_more))]
 fn command_with<'a>(
     row: ModeRow,
     limits: Limits,
     proofs: bool,
     files: Vec<&'a str>,
 ) -> Option<Command<'a>>
-    requires { 0 < row.fewest }
+    requires { AreEnough row.verb row.fewest }
     ensures command { option_map command_view result ≡ spec.command_if row.fewest row.most row.verb limits proofs (map (λ file. file.now) files.entry.items) }
     ensures source { IfSome result (λ c. HasSource c.mode (length c.files.items)) }
 {

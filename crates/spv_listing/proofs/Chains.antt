@@ -6,7 +6,7 @@ use Rattle.spv_verdicts.specs.declared.answers.verdicts.Decided.{Decided}
 use Rattle.spv_verdicts.specs.answers.Views.{VerdictIn}
 use Rattle.spv_reports.specs.declared.report.ProgramNames.{ProgramNames}
 use Rattle.spv_assign.specs.Conditions.{AreIn, IsIn, condition_of, conditions_of}
-use Rattle.spv_listing.specs.Page.{claim_lines, claims, condition_lines, blocks, AreDecided}
+use Rattle.spv_listing.specs.Page.{claim_lines, claims, condition_lines, blocks, checked_line, checked_lines, AreDecided}
 
 -- one text, and then another
 pub then_added : {A : Type 0} (o p q a b : List A) → p ≡ o ++ a → q ≡ p ++ b → q ≡ o ++ (a ++ b)
@@ -20,17 +20,17 @@ not_below_zero k h = grind (arith)
 below : (k n : ℕ) → suc k < suc n → k < n
 below k n h = grind (arith)
 
-pub same_length : (a : Arena) (cs : List Condition) (vs : List Decided) → AreDecided cs vs → length cs ≡ length vs
-same_length a [] [] right = refl
-same_length a [] (v ∷ vs) right = absurd right
-same_length a (c ∷ cs) [] right = absurd right
-same_length a (c ∷ cs) (v ∷ vs) right = ap suc (same_length a cs vs right.1)
+pub same_length : (cs : List Condition) (vs : List Decided) → AreDecided cs vs → length cs ≡ length vs
+same_length [] [] right = refl
+same_length [] (v ∷ vs) right = absurd right
+same_length (c ∷ cs) [] right = absurd right
+same_length (c ∷ cs) (v ∷ vs) right = ap suc (same_length cs vs right.1)
 
-pub verdict_at : (a : Arena) (cs : List Condition) (vs : List Decided) (k : ℕ) (c : Condition) (v : Decided) → AreDecided cs vs → k < length cs → VerdictIn (get_or vs k v).terms (get_or vs k v).verdict
-verdict_at a [] vs k c v right within = absurd (not_below_zero k within)
-verdict_at a (d ∷ cs) [] k c v right within = absurd right
-verdict_at a (d ∷ cs) (w ∷ vs) zero c v right within = right.0
-verdict_at a (d ∷ cs) (w ∷ vs) (suc k) c v right within = verdict_at a cs vs k c v right.1 (below k (length cs) within)
+pub verdict_at : (cs : List Condition) (vs : List Decided) (k : ℕ) (c : Condition) (v : Decided) → AreDecided cs vs → k < length cs → VerdictIn (get_or vs k v).terms (get_or vs k v).verdict
+verdict_at [] vs k c v right within = absurd (not_below_zero k within)
+verdict_at (d ∷ cs) [] k c v right within = absurd right
+verdict_at (d ∷ cs) (w ∷ vs) zero c v right within = right.0
+verdict_at (d ∷ cs) (w ∷ vs) (suc k) c v right within = verdict_at cs vs k c v right.1 (below k (length cs) within)
 
 -- ---- blocks
 
@@ -69,6 +69,46 @@ blocks_all proofs named a n (c ∷ cs) (v ∷ vs) zero right all = absurd (none 
     none i h = grind (arith)
 blocks_all proofs named a n (c ∷ cs) (v ∷ vs) (suc k) right all =
     ap (λ l. condition_lines proofs named n (condition_of a c) v ++ l) (blocks_all proofs named a (suc n) cs vs k right.1 (less (length cs) k all))
+  where
+    less : (i j : ℕ) → suc i ≤ suc j → i ≤ j
+    less i j h = grind (arith)
+
+-- ---- lines of conditions whose proofs were checked
+
+pub checked_more : (named : ProgramNames) (n : ℕ) (cs : List Condition) (vs : List Decided) (k : ℕ) (c : Condition) (v : Decided)
+    → AreDecided cs vs → k < length cs
+    → checked_lines named n (take (suc k) cs) (take (suc k) vs) ≡ checked_lines named n (take k cs) (take k vs) ++ checked_line named (k + n) (get_or cs k c).origin (get_or vs k v)
+checked_more named n [] vs k c v right within = absurd (not_below_zero k within)
+checked_more named n (d ∷ cs) [] k c v right within = absurd right
+checked_more named n (d ∷ cs) (w ∷ vs) zero c v right within =
+    append-nil (checked_line named n d.origin w) ∙ ap (λ m. checked_line named m d.origin w) (plain n)
+  where
+    plain : (i : ℕ) → i ≡ 0 + i
+    plain i = grind (arith)
+checked_more named n (d ∷ cs) (w ∷ vs) (suc k) c v right within =
+    let here = checked_line named n d.origin w in
+    let later : ℕ → List ℕ = λ m. checked_line named m (get_or cs k c).origin (get_or vs k v) in
+    let more = checked_more named (suc n) cs vs k c v right.1 (below k (length cs) within) in
+    ap (λ l. here ++ l) more
+    ∙ sym (append_assoc here (checked_lines named (suc n) (take k cs) (take k vs)) (later (k + suc n)))
+    ∙ ap (λ m. (here ++ checked_lines named (suc n) (take k cs) (take k vs)) ++ later m) (shift k n)
+  where
+    shift : (i j : ℕ) → i + suc j ≡ suc i + j
+    shift i j = grind (arith)
+
+-- from the length on, all are taken
+pub checked_all : (named : ProgramNames) (n : ℕ) (cs : List Condition) (vs : List Decided) (k : ℕ)
+    → AreDecided cs vs → length cs ≤ k → checked_lines named n (take k cs) (take k vs) ≡ checked_lines named n cs vs
+checked_all named n [] [] zero right all = refl
+checked_all named n [] [] (suc k) right all = refl
+checked_all named n [] (v ∷ vs) k right all = absurd right
+checked_all named n (c ∷ cs) [] k right all = absurd right
+checked_all named n (c ∷ cs) (v ∷ vs) zero right all = absurd (none (length cs) all)
+  where
+    none : (i : ℕ) → suc i ≤ 0 → ⊥
+    none i h = grind (arith)
+checked_all named n (c ∷ cs) (v ∷ vs) (suc k) right all =
+    ap (λ l. checked_line named n c.origin v ++ l) (checked_all named (suc n) cs vs k right.1 (less (length cs) k all))
   where
     less : (i j : ℕ) → suc i ≤ suc j → i ≤ j
     less i j h = grind (arith)

@@ -1,11 +1,10 @@
 -- The page of a report.
-use Rattle.std.specs.Prelude.{ℕ, suc, Bool, Option, Some, None, List, [], ◌∷◌, ◌++◌, length, slice_get, codes, decimal}
+use Rattle.std.specs.Prelude.{ℕ, suc, Bool, false, Option, List, [], ◌∷◌, ◌++◌, length, codes, decimal}
 use Rattle.std.specs.List.{flat_map}
 use Rattle.spv_logic.specs.declared.names.names.Symbol.{Symbol}
 use Rattle.spv_logic.specs.declared.conditions.Kind.{Kind}
 use Rattle.spv_logic.specs.declared.conditions.Kind.TheVariants as kind
 use Rattle.spv_logic.specs.declared.conditions.Origin.{Origin}
-use Rattle.spv_logic.specs.declared.conditions.RoutineId.{RoutineId}
 use Rattle.spv_logic.specs.Terms.{Term}
 use Rattle.spv_logic.specs.Conditions.{Condition}
 use Rattle.spv_term.specs.declared.nodes.Condition.{Condition as IdCondition}
@@ -14,13 +13,14 @@ use Rattle.spv_assign.specs.Conditions.{conditions_of}
 use Rattle.spv_verdicts.specs.declared.answers.verdicts.Decided.{Decided}
 use Rattle.spv_verdicts.specs.answers.Views.{VerdictIn}
 use Rattle.spv_reports.specs.declared.mode.Mode.{Mode}
-use Rattle.spv_reports.specs.declared.mode.Mode.TheVariants.{Verify, Simplify, Conditions, Drill}
+use Rattle.spv_reports.specs.declared.mode.Mode.TheVariants.{Verify, Simplify, Check, Conditions, Drill}
 use Rattle.spv_reports.specs.declared.mode.Load.{Load}
 use Rattle.spv_reports.specs.declared.report.ProgramNames.{ProgramNames}
+use Rattle.spv_reports.specs.Headings.{routine_text}
 use Rattle.spv_reports.specs.Reports.{Findings}
-use Rattle.spv_listing.specs.printed.Printed.{line, name_in, term_text}
+use Rattle.spv_listing.specs.printed.Printed.{line, term_text}
 use Rattle.spv_listing.specs.verdict_pages.VerdictLines.{decided_lines}
-use Rattle.spv_listing.specs.verdict_pages.Totals.{total_lines}
+use Rattle.spv_listing.specs.verdict_pages.Totals.{total_lines, checked_total_lines}
 
 abbrev pub kind_word : Kind → List ℕ
 kind_word kind.Exit = codes "EXIT"
@@ -28,16 +28,6 @@ kind_word kind.Assert = codes "ASSERT"
 kind_word kind.Invariant = codes "INVARIANT"
 kind_word kind.Preserved = codes "PRESERVED"
 kind_word kind.Entry = codes "ENTRY"
-
--- the name of a routine that has one
-abbrev pub name_of : List (List ℕ) → Option Symbol → List ℕ
-name_of names None = []
-name_of names (Some x) = name_in names x
-
--- the name of the routine that a condition is of, and for the main block a word of its own
-abbrev pub routine_text : ProgramNames → Option RoutineId → List ℕ
-routine_text named None = codes "MAIN"
-routine_text named (Some r) = name_of named.names (slice_get named.routines r.0)
 
 -- the heading of the condition with this number
 abbrev pub heading : ProgramNames → ℕ → Origin → List ℕ
@@ -70,6 +60,17 @@ AreDecided [] [] = Unit {0}
 AreDecided (c ∷ cs) (d ∷ ds) = VerdictIn d.terms d.verdict × AreDecided cs ds
 AreDecided _ _ = ⊥
 
+-- ---- conditions whose proofs were checked
+
+-- the heading of a condition, and behind it on the same line what was decided, without a proof
+abbrev pub checked_line : ProgramNames → ℕ → Origin → Decided → List ℕ
+checked_line named number origin d = heading named number origin ++ codes " " ++ decided_lines false named.names named.titles d
+
+-- conditions, numbered from this number on
+abbrev pub checked_lines : ProgramNames → ℕ → List IdCondition → List Decided → List ℕ
+checked_lines named number (c ∷ cs) (d ∷ ds) = checked_line named number c.origin d ++ checked_lines named (suc number) cs ds
+checked_lines named number _ _ = []
+
 -- ---- conditions alone
 
 -- conditions, numbered from this number on
@@ -91,6 +92,10 @@ verdicts_page proofs named a conditions verdicts =
 abbrev pub listing_of : Findings → List ℕ
 listing_of r = verdicts_page r.proofs r.named r.arena r.conditions r.verdicts
 
+-- of conditions whose proofs were checked
+abbrev pub checked_page : ProgramNames → List IdCondition → List Decided → List ℕ
+checked_page named conditions verdicts = line (codes "SPV CHECK 1") ++ checked_lines named 1 conditions verdicts ++ checked_total_lines verdicts
+
 -- of conditions alone
 abbrev pub conditions_page : ProgramNames → Arena → List IdCondition → List ℕ
 conditions_page named a conditions = line (codes "SPV CONDITIONS 1") ++ claims named 1 (conditions_of a conditions) ++ count (length conditions)
@@ -106,6 +111,7 @@ drill_page load conditions verdicts =
 abbrev pub page_in : Mode → Findings → List ℕ
 page_in (Verify limits) r = listing_of r
 page_in (Simplify limits) r = listing_of r
+page_in Check r = checked_page r.named r.conditions r.verdicts
 page_in Conditions r = conditions_page r.named r.arena r.conditions
 page_in (Drill load limits) r = drill_page load (length r.conditions) r.verdicts
 

@@ -3,7 +3,7 @@
 use spv_atoms::{Proof, ProofNode, Relation, Stated, Step};
 use spv_reports::Report;
 use spv_term::{Condition, TermId, Terms};
-use spv_verdicts::answers::{Decided, Unproved, Verdict};
+use spv_verdicts::answers::{Decided, Limit, Unproved, Verdict, Wide};
 use std::alloc::{AllocError, Global};
 
 /// The most bytes that a page has: 4 GiB.
@@ -119,16 +119,35 @@ fn behind_verdict(
             Ok(Lengths::new(alloc, &decided.terms)?.behind_proof(before, proof))
         }
         Verdict::Unproved(u) => Ok(Lengths::new(alloc, &decided.terms)?.behind_table(before, u)),
+        Verdict::GaveUp(_, Limit::Number(Wide::Form(t))) => {
+            Ok(Lengths::new(alloc, &decided.terms)?.behind_one(before, *t))
+        }
         _ => Ok(before),
     }
+}
+
+// Whether a page has too many bytes with these verdicts, where so many bytes come in front of them.
+fn are_too_long(
+    alloc: Global,
+    before: u64,
+    verdicts: &[Decided],
+    proofs: bool,
+) -> Result<bool, AllocError> {
+    let mut length = before;
+    for decided in verdicts {
+        length = behind_verdict(alloc, length, decided, proofs)?;
+    }
+    Ok(length > MOST)
 }
 
 /// Whether the page of a report would have more bytes than a page has.
 pub(crate) fn is_too_long(alloc: Global, report: &Report) -> Result<bool, AllocError> {
     let claims = Lengths::new(alloc, report.terms())?;
-    let mut length = claims.behind_claims(0, report.conditions());
-    for decided in report.verdicts() {
-        length = behind_verdict(alloc, length, decided, report.proofs())?;
-    }
-    Ok(length > MOST)
+    let length = claims.behind_claims(0, report.conditions());
+    are_too_long(alloc, length, report.verdicts(), report.proofs())
+}
+
+/// The same of a page that has no hypotheses, goals and proofs, but a line for each condition.
+pub(crate) fn are_lines_too_long(alloc: Global, report: &Report) -> Result<bool, AllocError> {
+    are_too_long(alloc, 0, report.verdicts(), false)
 }

@@ -7,20 +7,20 @@ ghost use Rattle.spv_verdicts.specs.answers.Views.{VerdictIn};
 ghost use Rattle.spv_reports.specs.Reports.{has_verdicts};
 ghost use Rattle.spv_listing.specs.printed.Printed.{line};
 ghost use Rattle.spv_listing.specs.Page as spec;
-ghost use Rattle.spv_listing.specs.Page.{heading, routine_text, given_line, goal_line, claim_lines, condition_lines, blocks, claims, count, listing_of, AreDecided};
+ghost use Rattle.spv_listing.specs.Page.{heading, given_line, goal_line, claim_lines, condition_lines, blocks, checked_line, checked_lines, claims, count, listing_of, AreDecided};
 ghost use Rattle.spv_term.specs.Arena.{AllBelow, tree};
 
-use crate::lengths::is_too_long;
-use crate::printed::{push_decimal, push_name, push_term};
-use crate::verdict_pages::{push_totals, push_verdict};
-use spv_reports::{Load, Mode, ProgramNames, Report};
-use spv_term::{Condition, Kind, Origin, RoutineId, TermId, Terms};
+use crate::lengths::{are_lines_too_long, is_too_long};
+use crate::printed::{push_decimal, push_term};
+use crate::verdict_pages::{push_checked_totals, push_totals, push_verdict};
+use spv_reports::{Load, Mode, ProgramNames, Report, routine_name};
+use spv_term::{Condition, Kind, Origin, TermId, Terms};
 use spv_verdicts::answers::Decided;
 use std::alloc::{AllocError, Global};
 
 /// The page of a report: a heading, each condition with its hypotheses and its goal, in the modes `Verify` and `Simplify` with its
-/// verdict, and the totals; in the mode `Drill` the number of conditions stands in their place. Each line ends with byte 10. Memory: there
-/// was not enough of it, or the page would have more than 4 GiB.
+/// verdict, and the totals; in the mode `Check` a line for each condition, with its verdict; in the mode `Drill` the number of conditions
+/// stands in their place. Each line ends with byte 10. Memory: there was not enough of it, or the page would have more than 4 GiB.
 pub fn page(alloc: Global, report: &Report) -> Result<Vec<u8>, AllocError>
     ensures { IfOk result (λ p. p.items ≡ spec.page report.now) }
 {
@@ -28,6 +28,7 @@ pub fn page(alloc: Global, report: &Report) -> Result<Vec<u8>, AllocError>
     match report.mode() {
         Mode::Verify(_) => listing(alloc, report),
         Mode::Simplify(_) => listing(alloc, report),
+        Mode::Check => checked(alloc, report),
         Mode::Drill(load, _) => drill_page(
             alloc,
             *load,
@@ -68,6 +69,18 @@ fn listing(alloc: Global, report: &Report) -> Result<Vec<u8>, AllocError>
     )
 }
 
+// The page of a report of proofs that were checked.
+fn checked(alloc: Global, report: &Report) -> Result<Vec<u8>, AllocError>
+    requires { IsTrue (has_verdicts report.now.mode) }
+    ensures { IfOk result (λ p. p.items ≡ spec.checked_page report.now.named report.now.conditions report.now.verdicts) }
+{
+    report.law_findings();
+    if are_lines_too_long(alloc, report)? {
+        return Err(AllocError);
+    }
+    checked_page(alloc, report.named(), report.conditions(), report.verdicts())
+}
+
 // The page of conditions with their verdicts.
 fn verdicts_page(
     alloc: Global,
@@ -84,6 +97,22 @@ fn verdicts_page(
     let mut out = Vec::from_slice(alloc, b"SPV LISTING 1\n")?;
     push_blocks(&mut out, named, terms, conditions, verdicts, proofs)?;
     push_totals(&mut out, verdicts)?;
+    Ok(out)
+}
+
+// The page of conditions whose proofs were checked.
+fn checked_page(
+    alloc: Global,
+    named: &ProgramNames,
+    conditions: &[Condition],
+    verdicts: &[Decided],
+) -> Result<Vec<u8>, AllocError>
+    requires { AreDecided conditions.now verdicts.now }
+    ensures { IfOk result (λ p. p.items ≡ spec.checked_page named.now conditions.now verdicts.now) }
+{
+    let mut out = Vec::from_slice(alloc, b"SPV CHECK 1\n")?;
+    push_checked_lines(&mut out, named, conditions, verdicts)?;
+    push_checked_totals(&mut out, verdicts)?;
     Ok(out)
 }
 
@@ -206,6 +235,45 @@ fn push_condition(
     push_verdict(out, &named.names, named.titles.as_slice(), decided, proofs)
 }
 
+// The line of each condition whose proof was checked, numbered from 1.
+fn push_checked_lines(
+    out: &mut Vec<u8>,
+    named: &ProgramNames,
+    conditions: &[Condition],
+    verdicts: &[Decided],
+) -> Result<(), AllocError>
+    requires { AreDecided conditions.now verdicts.now }
+    ensures { OnOk result (out.new.items ≡ out.old.items ++ checked_lines named.now 1 conditions.now verdicts.now) }
+{
+    for place in 0..conditions.len() {
+        let number = place as u64 + 1;
+        push_checked_line(
+            out,
+            named,
+            number,
+            conditions[place].origin,
+            &verdicts[place],
+        )?;
+    }
+    Ok(())
+}
+
+// The line of a condition whose proof was checked.
+fn push_checked_line(
+    out: &mut Vec<u8>,
+    named: &ProgramNames,
+    number: u64,
+    origin: Origin,
+    decided: &Decided,
+) -> Result<(), AllocError>
+    requires { VerdictIn decided.now.terms decided.now.verdict }
+    ensures { OnOk result (out.new.items ≡ out.old.items ++ checked_line named.now number origin decided.now) }
+{
+    push_heading(out, named, number, origin)?;
+    out.push(b' ')?;
+    push_verdict(out, &named.names, named.titles.as_slice(), decided, false)
+}
+
 /// Adds the lines of a condition: its number and origin, its hypotheses and its goal.
 pub fn push_claim(
     out: &mut Vec<u8>,
@@ -217,7 +285,7 @@ pub fn push_claim(
     requires in_range { IsIn terms.now condition.now }
     ensures lines { OnOk result (out.new.items ≡ out.old.items ++ claim_lines named.now number (condition_of terms.now condition.now)) }
 {
-    push_heading(out, named, number, condition.origin)?;
+    push_heading_line(out, named, number, condition.origin)?;
     push_givens(out, named, terms, condition.given.as_slice())?;
     push_goal(out, named, terms, condition.goal)
 }
@@ -254,8 +322,28 @@ fn push_given(
     Ok(())
 }
 
-// The line of a condition's number and origin.
+// A condition's number and origin.
 fn push_heading(
+    out: &mut Vec<u8>,
+    named: &ProgramNames,
+    number: u64,
+    origin: Origin,
+) -> Result<(), AllocError>
+    ensures { OnOk result (out.new.items ≡ out.old.items ++ heading named.now number origin) }
+{
+    out.extend_from_slice(b"CONDITION ")?;
+    push_decimal(out, number)?;
+    out.push(b' ')?;
+    out.extend_from_slice(routine_name(named, origin.routine))?;
+    out.push(b' ')?;
+    out.extend_from_slice(kind_word(origin.kind))?;
+    out.extend_from_slice(b" LINE ")?;
+    push_decimal(out, origin.line as u64)?;
+    Ok(())
+}
+
+// The line of a condition's number and origin.
+fn push_heading_line(
     out: &mut Vec<u8>,
     named: &ProgramNames,
     number: u64,
@@ -263,34 +351,9 @@ fn push_heading(
 ) -> Result<(), AllocError>
     ensures { OnOk result (out.new.items ≡ out.old.items ++ line (heading named.now number origin)) }
 {
-    out.extend_from_slice(b"CONDITION ")?;
-    push_decimal(out, number)?;
-    out.push(b' ')?;
-    push_routine(out, named, origin.routine)?;
-    out.push(b' ')?;
-    out.extend_from_slice(kind_word(origin.kind))?;
-    out.extend_from_slice(b" LINE ")?;
-    push_decimal(out, origin.line as u64)?;
+    push_heading(out, named, number, origin)?;
     out.push(b'\n')?;
     Ok(())
-}
-
-// The name of the routine that a condition is of, or the main block's word.
-fn push_routine(
-    out: &mut Vec<u8>,
-    named: &ProgramNames,
-    routine: Option<RoutineId>,
-) -> Result<(), AllocError>
-    ensures { OnOk result (out.new.items ≡ out.old.items ++ routine_text named.now routine) }
-{
-    let Some(id) = routine else {
-        out.extend_from_slice(b"MAIN")?;
-        return Ok(());
-    };
-    match named.routines.as_slice().get(id.0 as usize) {
-        Some(name) => push_name(out, &named.names, *name),
-        None => Ok(()),
-    }
 }
 
 // The word for a kind of condition.

@@ -10,5 +10,5 @@ mod totals;
 mod verdict;
 
 pub use laws::{law_limit_lines, law_other_proof, law_proof_lines, law_totals, law_unproved_lines};
-pub use totals::push_totals;
+pub use totals::{push_checked_totals, push_totals};
 pub use verdict::push_verdict;

@@ -46,9 +46,10 @@ fn show_frames(alloc: Global, out: &mut Vec<u8>) -> Result<(), AllocError> {
     add(alloc, Refusal::Size(1, List::new(alloc)), out)
 }
 
-// That of rules.
-fn show_rules(alloc: Global, out: &mut Vec<u8>) -> Result<(), AllocError> {
-    add(alloc, Refusal::Unbound(16, List::new(alloc)), out)
+// Those of rules and of listings.
+fn show_others(alloc: Global, out: &mut Vec<u8>) -> Result<(), AllocError> {
+    add(alloc, Refusal::Unbound(16, List::new(alloc)), out)?;
+    add(alloc, Refusal::Listing(17, List::new(alloc)), out)
 }
 
 /// Adds the message of each refusal and fault.
@@ -56,7 +57,7 @@ pub fn show(alloc: Global, out: &mut Vec<u8>) -> Result<(), AllocError> {
     show_reading(alloc, out)?;
     show_types(alloc, out)?;
     show_frames(alloc, out)?;
-    show_rules(alloc, out)?;
+    show_others(alloc, out)?;
     add_fault(
         alloc,
         VerifyFault::Refused(Which::Rules, Refusal::Size(1, List::new(alloc))),

@@ -1,5 +1,6 @@
 -- A report whose verdicts are all Proved makes its program correct.
-use Rattle.std.proofs.Common.{◌≡◌, Bool, true, not, List, [], ◌∷◌, Option, Some, None, is_some, sym, ap, subst, ◌∙◌}
+use Rattle.std.proofs.Common.{◌≡◌, Bool, true, not, List, [], ◌∷◌, drop, Option, None, is_some, sym, ap, subst, ◌∙◌}
+use Rattle.std.specs.Prelude.{slice_get}
 use Rattle.std.proofs.lemmas.Bool.{false≢true}
 use Rattle.spv_logic.proofs.list.Tests.{left_true, right_true}
 use Rattle.spv_logic.specs.Shapes.{shapes_ok}
@@ -20,8 +21,14 @@ use Rattle.spv_proof_rules.specs.Rules.{Rule, RulesHold}
 use Rattle.spv_verdicts.specs.Verdicts.{Limits}
 use Rattle.spv_rules.specs.RuleSets.{rules_in}
 use Rattle.spv_verdicts.specs.declared.answers.verdicts.Decided.{Decided}
-use Rattle.spv_reports.specs.Reports.{Findings, IsReport, IsReportOn, AreVerdicts, AreVerdictsWithin, limits_of, is_proved, all_proved, ProvedIsCorrectIn}
-use Rattle.spv_reports.proofs.Proved.{proved_true}
+use Rattle.spv_listing_values.specs.declared.data.Claim.{Claim}
+use Rattle.spv_listing_values.specs.Written.{Written}
+use Rattle.spv_reports.specs.declared.report.ProgramNames.{ProgramNames}
+use Rattle.spv_reports.specs.declared.mode.Mode.{Mode}
+use Rattle.spv_reports.specs.declared.mode.Mode.TheVariants.{Verify, Simplify, Check, Conditions, Drill}
+use Rattle.spv_reports.specs.Headings.{header_of}
+use Rattle.spv_reports.specs.Reports.{Findings, IsReport, IsReportOn, AreVerdicts, AreRechecked, AreVerdictsIn, entries_of, has_verdicts, recheck_of, is_proved, all_proved, ProvedIsCorrectIn}
+use Rattle.spv_reports.proofs.Proved.{proved_true, rechecked_true}
 
 -- proved conditions are true in every world in which the rules hold
 all_true : (rules : List Rule) (a : Arena) (limits : Limits) (world : Meaning) → shapes_ok a.shapes ≡ true → RulesHold a.shapes a.decls world rules
@@ -34,11 +41,25 @@ all_true rules a limits world ok hold (c ∷ cs) (d ∷ ds) right proved = (
   all_true rules a limits world ok hold cs ds right.1 (right_true (is_proved d.verdict) _ proved),
 )
 
+-- and so are those of which a listing has a proof that is accepted
+all_accepted : (rules : List Rule) (named : ProgramNames) (a : Arena) (world : Meaning) → shapes_ok a.shapes ≡ true → RulesHold a.shapes a.decls world rules
+    → (entries : List (Claim Written)) (cs : List Condition) (ds : List Decided) → AreRechecked rules named a entries cs ds → all_proved ds ≡ true → AllTrueIn a.shapes a.decls world (conditions_of a cs)
+all_accepted rules named a world ok hold entries [] [] right proved = tt
+all_accepted rules named a world ok hold entries [] (d ∷ ds) right proved = absurd right
+all_accepted rules named a world ok hold entries (c ∷ cs) [] right proved = absurd right
+all_accepted rules named a world ok hold entries (c ∷ cs) (d ∷ ds) right proved = (
+  rechecked_true (recheck_of rules named) (header_of named c.origin) a c (slice_get entries 0) d world ok hold right.0 (left_true _ _ proved),
+  all_accepted rules named a world ok hold (drop 1 entries) cs ds right.1 (right_true (is_proved d.verdict) _ proved),
+)
+
 -- with verdicts, they are on the conditions
-all_right : (o : Option Limits) (rules : List Rule) (a : Arena) (world : Meaning) → shapes_ok a.shapes ≡ true → RulesHold a.shapes a.decls world rules
-    → (cs : List Condition) (ds : List Decided) → is_some o ≡ true → AreVerdictsWithin o rules a cs ds → all_proved ds ≡ true → AllTrueIn a.shapes a.decls world (conditions_of a cs)
-all_right (Some limits) rules a world ok hold cs ds has right proved = all_true rules a limits world ok hold cs ds right proved
-all_right None rules a world ok hold cs ds has right proved = absurd (false≢true has)
+all_right : (m : Mode) (listing : Option (List (Claim Written))) (rules : List Rule) (named : ProgramNames) (a : Arena) (world : Meaning) → shapes_ok a.shapes ≡ true → RulesHold a.shapes a.decls world rules
+    → (cs : List Condition) (ds : List Decided) → has_verdicts m ≡ true → AreVerdictsIn m listing rules named a cs ds → all_proved ds ≡ true → AllTrueIn a.shapes a.decls world (conditions_of a cs)
+all_right (Verify limits) listing rules named a world ok hold cs ds has right proved = all_true rules a limits world ok hold cs ds right proved
+all_right (Simplify limits) listing rules named a world ok hold cs ds has right proved = all_true rules a limits world ok hold cs ds right proved
+all_right Check listing rules named a world ok hold cs ds has right proved = all_accepted rules named a world ok hold (entries_of listing) cs ds right proved
+all_right Conditions listing rules named a world ok hold cs ds has right proved = absurd (false≢true has)
+all_right (Drill load limits) listing rules named a world ok hold cs ds has right proved = all_true rules a limits world ok hold cs ds right proved
 
 -- where the walk meets no fault, the rules of frames hold
 framed_right : (p : Program) → frame_fault p ≡ None → framed p ≡ true
@@ -49,7 +70,7 @@ proved_correct r world has proved p is hold =
     let hold_here : RulesHold r.arena.shapes r.arena.decls world (rules_in r.rules) =
     subst (λ (s : List Shape). RulesHold s r.arena.decls world (rules_in r.rules)) (sym is.shapes) (subst (λ (d : List Decl). RulesHold (shapes p) d world (rules_in r.rules)) (sym is.decls) hold) in
     let here : AllTrueIn r.arena.shapes r.arena.decls world (conditions_of r.arena r.conditions) =
-    all_right (limits_of r.mode) (rules_in r.rules) r.arena world is.sound.shapes hold_here r.conditions r.verdicts has is.verdicts proved in
+    all_right r.mode r.listing (rules_in r.rules) r.named r.arena world is.sound.shapes hold_here r.conditions r.verdicts has is.verdicts proved in
     let there : AllTrueIn (shapes p) r.arena.decls world (conditions_of r.arena r.conditions) = subst (λ (s : List Shape). AllTrueIn s r.arena.decls world (conditions_of r.arena r.conditions)) is.shapes here in
     let all : AllTrueIn (shapes p) p.symbols world (conditions_of r.arena r.conditions) = subst (λ (d : List Decl). AllTrueIn (shapes p) d world (conditions_of r.arena r.conditions)) is.decls there in
     conditions_correct world p is.typed (framed_right p is.framed) (subst (AllTrueIn (shapes p) p.symbols world) is.conditions all)

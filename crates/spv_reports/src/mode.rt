@@ -18,6 +18,8 @@ pub enum Mode {
     Verify(Limits),
     /// The same on the one condition of a formula text.
     Simplify(Limits),
+    /// For each condition of a program, whether the proof is accepted that a listing has of it.
+    Check,
     /// The conditions of a program alone.
     Conditions,
     /// A verdict on each condition of a generated program, within these limits; a page tells how many there are of each kind.

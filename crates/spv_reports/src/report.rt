@@ -5,6 +5,7 @@ ghost use Rattle.spv_logic.specs.Conditions.{Meaning};
 ghost use Rattle.spv_reports.specs.Reports.{findings, IsReport, ProvedIsCorrectIn};
 
 use crate::mode::Mode;
+use spv_listing_values::Listing;
 use spv_logic::list::List;
 use spv_logic::names::{Names, Symbol};
 use spv_rules::Rules;
@@ -25,7 +26,8 @@ pub struct ProgramNames {
 }
 
 /// What was found out about a program: its verification conditions, and where verdicts were wanted what was decided of each under its
-/// rules. That there is a program whose conditions these are, and that the verdicts are right, are facts of this type.
+/// rules, or of the proof that a listing has of it. That there is a program whose conditions these are, and that the verdicts are right,
+/// are facts of this type.
 #[derive(Drop)]
 pub struct Report {
     named: ProgramNames,
@@ -33,14 +35,20 @@ pub struct Report {
     conditions: Vec<Condition>,
     rules: Rules,
     mode: Mode,
+    listing: Option<Listing>,
     verdicts: Vec<Decided>,
     proofs: bool,
 }
 
 impl Model for Report {
+    ghost use Rattle.std.specs.Coded.{codes};
+    ghost use Rattle.spv_logic.specs.list.Ways.{coded_by};
+    ghost use Rattle.spv_listing_values.specs.Ways.{way_written};
     ghost use Rattle.spv_reports.specs.Reports.{Findings, IsReport};
 
     ghost Value = { Findings };
+
+    ghost coded = { Prim.hlevel (codes, coded_by way_written) };
 
     ghost view = { λ r. record {
       named = r.named;
@@ -48,6 +56,7 @@ impl Model for Report {
       conditions = r.conditions.items;
       rules = r.rules;
       mode = r.mode;
+      listing = r.listing;
       verdicts = r.verdicts.items;
       proofs = r.proofs;
     } };
@@ -58,23 +67,26 @@ impl Model for Report {
       conditions = r.conditions.items;
       rules = r.rules;
       mode = r.mode;
+      listing = r.listing;
       verdicts = r.verdicts.items;
       proofs = r.proofs;
     }) };
 }
 
 impl Report {
-    /// The report with these conditions and verdicts, which are those of a program, under these rules. A page of it has no proofs.
+    /// The report with these conditions and verdicts, which are those of a program, under these rules and for this listing, where there is
+    /// one. A page of it has no proofs.
     pub fn new(
         named: ProgramNames,
         terms: Terms,
         conditions: Vec<Condition>,
         rules: Rules,
         mode: Mode,
+        listing: Option<Listing>,
         verdicts: Vec<Decided>,
     ) -> Report
-        requires report { IsReport (findings named terms conditions.items rules mode verdicts.items) }
-        ensures findings { result ≡ findings named terms conditions.items rules mode verdicts.items }
+        requires report { IsReport (findings named terms conditions.items rules mode listing verdicts.items) }
+        ensures findings { result ≡ findings named terms conditions.items rules mode listing verdicts.items }
     {
         Report {
             named,
@@ -82,6 +94,7 @@ impl Report {
             conditions,
             rules,
             mode,
+            listing,
             verdicts,
             proofs: false,
         }
@@ -137,6 +150,13 @@ impl Report {
         ensures { result.now ≡ self.now.mode }
     {
         &self.mode
+    }
+
+    /// The listing whose proofs were checked, in the mode `Check`.
+    pub fn listing(&self) -> &Option<Listing>
+        ensures { result.now ≡ self.now.listing }
+    {
+        &self.listing
     }
 
     /// What was decided: nothing in the mode `Conditions`, else of each condition, and in that order.

@@ -3,6 +3,7 @@
 ghost use Rattle.std.specs.Prelude.{◌≡◌};
 ghost use Rattle.spv_reports.specs.Reports as spec;
 
+use crate::mode::Mode;
 use spv_verdicts::answers::{Decided, Verdict};
 
 /// Whether a verdict is Proved.
@@ -29,6 +30,31 @@ pub fn is_unproved(verdict: &Verdict) -> bool
     }
 }
 
+/// Whether a verdict is NotAccepted.
+pub fn is_not_accepted(verdict: &Verdict) -> bool
+    ensures { result ≡ spec.is_not_accepted verdict.now }
+{
+    match verdict {
+        Verdict::Proved(_) => false,
+        Verdict::Unproved(_) => false,
+        Verdict::GaveUp(_, _) => false,
+        Verdict::NotAccepted => true,
+    }
+}
+
+/// Whether a verdict is the one for which a report of this mode fails: in the mode `Check` NotAccepted, else Unproved.
+pub fn fails(mode: &Mode, verdict: &Verdict) -> bool
+    ensures { result ≡ spec.fails mode.now verdict.now }
+{
+    match mode {
+        Mode::Verify(_) => is_unproved(verdict),
+        Mode::Simplify(_) => is_unproved(verdict),
+        Mode::Check => is_not_accepted(verdict),
+        Mode::Conditions => is_unproved(verdict),
+        Mode::Drill(_, _) => is_unproved(verdict),
+    }
+}
+
 /// Whether every verdict is Proved.
 pub fn all_proved(verdicts: &[Decided]) -> bool
     ensures { result ≡ spec.all_proved verdicts.now }
@@ -36,11 +62,11 @@ pub fn all_proved(verdicts: &[Decided]) -> bool
     verdicts.iter().all(|decided| is_proved(&decided.verdict))
 }
 
-/// Whether no verdict is Unproved. Where not all are Proved, the search then gave up on some condition.
-pub fn none_unproved(verdicts: &[Decided]) -> bool
-    ensures { result ≡ spec.none_unproved verdicts.now }
+/// Whether no verdict fails. Where not all are Proved, some condition was then given up.
+pub fn none_fails(mode: &Mode, verdicts: &[Decided]) -> bool
+    ensures { result ≡ spec.none_fails mode.now verdicts.now }
 {
     verdicts
         .iter()
-        .all(|decided| !is_unproved(&decided.verdict))
+        .all(|decided| !fails(mode, &decided.verdict))
 }

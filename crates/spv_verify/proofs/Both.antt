@@ -1,5 +1,5 @@
 -- No text is refused and has a report.
-use Rattle.std.proofs.Common.{◌≡◌, inl, inr, ℕ, ◌≤◌, List, [], map, length, Option, Some, None, Ok, Err, sym, ap, ◌∙◌, subst, arith}
+use Rattle.std.proofs.Common.{◌≡◌, inl, inr, ℕ, ◌≤◌, List, [], map, length, Option, Some, None, Ok, Err, IsTrue, sym, ap, ◌∙◌, subst, arith}
 use Rattle.std.proofs.lemmas.Option.{none-some}
 use Rattle.spv_lexer.specs.declared.LexFault.TheVariants as lex
 use Rattle.spv_parser.specs.declared.refused.SyntaxFault.TheVariants as syntax
@@ -28,11 +28,18 @@ use Rattle.spv_rules.specs.RuleSets.{rules_in}
 use Rattle.spv_verify.specs.declared.refused.refusal.Refusal.{Refusal}
 use Rattle.spv_verify.specs.declared.refused.fault.Which.{Which}
 use Rattle.spv_verify.specs.declared.refused.fault.Which.TheVariants as which
-use Rattle.spv_verify.specs.refused.Told.{text_refusal, limit_refusal}
+use Rattle.spv_verify.specs.refused.Told.{text_refusal, listing_refusal, limit_refusal}
+use Rattle.spv_listing_values.specs.declared.data.Claim.{Claim}
+use Rattle.spv_listing_values.specs.declared.fault.ListFault.{ListFault}
+use Rattle.spv_listing_values.specs.declared.fault.ListFault.TheVariants as no_listing
+use Rattle.spv_listing_values.specs.Written.{Written}
+use Rattle.spv_listing_values.specs.Forms.{is_listing}
+use Rattle.spv_listing_values.specs.Page.{page}
 use Rattle.spv_verify.specs.tree_reports.Walks.{IsSound, IsWalkRefusal, is_typed_as}
 use Rattle.spv_verify.specs.tree_reports.RuleFiles.{AreFileRules, AreRulesOf, IsFileRefusal, IsRulesRefusal}
+use Rattle.spv_verify.specs.tree_reports.Listings.{IsListed, IsListFault, IsListingOf, IsListingRefusal}
 use Rattle.spv_verify.specs.tree_reports.Programs.{IsProgramRefusal, IsRuledRefusal, IsTreeRefusal}
-use Rattle.spv_verify.specs.Refusals.{names_of, HaveNotBoth, IsOneProgram, IsOneList}
+use Rattle.spv_verify.specs.Refusals.{names_of, HaveNotBoth, IsOneProgram, IsOneList, IsOneListing}
 
 -- ---- reading
 
@@ -78,6 +85,29 @@ pub is_one_list : TextsHaveOneTree ReadsRules → IsOneList
 is_one_list one names p None first second h k = h ∙ sym k
 is_one_list one names p (Some text) first second h k = one_file_list one names p text first second h k
 
+-- ---- listings
+
+-- bytes that are a listing have no fault
+bytes_not_refused : (bytes : List ℕ) (entries : List (Claim Written)) (r : Refusal) → IsListingOf bytes entries → (fault : ListFault) → IsListFault bytes fault → listing_refusal fault ≡ Some r → ⊥
+bytes_not_refused bytes entries r is no_listing.TooLong long told = let short : length bytes ≤ 67108864 = is.short in omega (arith, short, long)
+bytes_not_refused bytes entries r is (no_listing.Form line) (short, none) told = none entries is.formed is.printed
+bytes_not_refused bytes entries r is no_listing.Memory stops told = none-some _ told
+
+listing_not_refused : (listing : Option (List ℕ)) (entries : Option (List (Claim Written))) (r : Refusal) → IsListed listing entries → IsListingRefusal listing r → ⊥
+listing_not_refused None entries r is refused = refused
+listing_not_refused (Some bytes) None r is refused = is
+listing_not_refused (Some bytes) (Some entries) r is refused = bytes_not_refused bytes entries r is refused.fault refused.stops refused.told
+
+-- two listings with the same bytes are one
+abbrev ArePrintedApart : Type 0
+ArePrintedApart = (a b : List (Claim Written)) → IsTrue (is_listing a) → IsTrue (is_listing b) → page a ≡ page b → a ≡ b
+
+pub is_one_listing : ArePrintedApart → IsOneListing
+is_one_listing apart None first second h k = h ∙ sym k
+is_one_listing apart (Some bytes) None second h k = absurd h
+is_one_listing apart (Some bytes) (Some a) None h k = absurd k
+is_one_listing apart (Some bytes) (Some a) (Some b) h k = ap Some (apart a b h.formed k.formed (h.printed ∙ sym k.printed))
+
 -- ---- programs
 
 -- a tree is one program
@@ -100,23 +130,24 @@ module _ (one : MeetsNoOther) (one_rules : TextsHaveOneTree ReadsRules) (p : Pro
   program_not_refused : (r : Refusal) → IsProgramRefusal p r → ⊥
   program_not_refused r limits = no_limit limits.limit r limits.meets limits.told
 
-  module _ (names : List (List ℕ)) (rules : Option (List ℕ)) (under : AreRulesOf names p rules (rules_in f.rules)) where
-    -- nor has its rule file
-    ruled_not_refused : (w : Which) (r : Refusal) → IsRuledRefusal names p rules w r → ⊥
+  module _ (names : List (List ℕ)) (rules listing : Option (List ℕ)) (under : AreRulesOf names p rules (rules_in f.rules)) (listed : IsListed listing f.listing) where
+    -- nor have its rule file and its listing
+    ruled_not_refused : (w : Which) (r : Refusal) → IsRuledRefusal names p rules listing w r → ⊥
     ruled_not_refused which.Rules r refused = rules_not_refused one_rules names p rules (rules_in f.rules) r under refused
-    ruled_not_refused which.Program r (list, refused) = program_not_refused r refused
+    ruled_not_refused which.Listing r (list, refused) = listing_not_refused listing f.listing r listed refused
+    ruled_not_refused which.Program r (list, (entries, refused)) = program_not_refused r refused
 
-    pub tree_not_refused : (tree : TextTree) (w : Which) (r : Refusal) → IsSound names tree p → IsTreeRefusal names tree rules w r → ⊥
+    pub tree_not_refused : (tree : TextTree) (w : Which) (r : Refusal) → IsSound names tree p → IsTreeRefusal names tree rules listing w r → ⊥
     tree_not_refused tree w r sound (inl (first, walk)) = sound_not_refused names tree p r sound walk
     tree_not_refused tree w r sound (inr (q, other, refused)) =
-        ruled_not_refused w r (subst (λ (x : Program). IsRuledRefusal names x rules w r) (sym (one_program names tree p q sound other.typed)) refused)
+        ruled_not_refused w r (subst (λ (x : Program). IsRuledRefusal names x rules listing w r) (sym (one_program names tree p q sound other.typed)) refused)
 
 pub not_both : TextsHaveOneTree Reads → TextsHaveOneTree ReadsFormulaText → TextsHaveOneTree ReadsRules → MeetsNoOther → HaveNotBoth
-not_both programs formulas files one kind text rules f w r of (inl (first, reading)) =
+not_both programs formulas files one kind text rules listing f w r of (inl (first, reading)) =
     by_reading (ReadsText kind) [] text of.of_text.tree r of.of_text.is_tree reading.fault reading.stops reading.told
-not_both programs formulas files one kind text rules f w r of (inr (tree, tree_is, refused)) =
-    tree_not_refused one files of.program f of.is_on of.not_refused (names_of text) rules of.under of.of_text.tree w r of.of_text.sound
-    (subst (λ (t : TextTree). IsTreeRefusal (names_of text) t rules w r) (one_tree programs formulas kind [] text tree of.of_text.tree tree_is of.of_text.is_tree) refused)
+not_both programs formulas files one kind text rules listing f w r of (inr (tree, tree_is, refused)) =
+    tree_not_refused one files of.program f of.is_on of.not_refused (names_of text) rules listing of.under of.listed of.of_text.tree w r of.of_text.sound
+    (subst (λ (t : TextTree). IsTreeRefusal (names_of text) t rules listing w r) (one_tree programs formulas kind [] text tree of.of_text.tree tree_is of.of_text.is_tree) refused)
 
 pub is_one_program : TextsHaveOneTree Reads → TextsHaveOneTree ReadsFormulaText → IsOneProgram
 is_one_program programs formulas kind text p q h k =

@@ -12,6 +12,6 @@ IsReadingCause kind bytes (text.Refused r) = IsReadingRefusal kind bytes r
 IsReadingCause kind bytes text.Memory = ⊤
 
 -- a refusal is one of the texts
-abbrev pub IsCause : TextKind → List ℕ → Option (List ℕ) → VerifyFault → Type 0
-IsCause kind bytes rules (Refused w r) = IsRefused kind bytes rules w r
-IsCause kind bytes rules Memory = ⊤
+abbrev pub IsCause : TextKind → List ℕ → Option (List ℕ) → Option (List ℕ) → VerifyFault → Type 0
+IsCause kind bytes rules listing (Refused w r) = IsRefused kind bytes rules listing w r
+IsCause kind bytes rules listing Memory = ⊤

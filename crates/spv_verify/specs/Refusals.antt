@@ -1,4 +1,4 @@
--- When a text is refused, with a rule file or without one, and when a report is its report. A text is a program or a formula text, as it is read.
+-- When a text is refused, with a rule file and a listing or without them, and when a report is its report. A text is a program or a formula text, as it is read.
 use Rattle.std.specs.Prelude.{◌≡◌, ℕ, ◌⊎◌, List, [], Option, Some}
 use Rattle.spv_parser.specs.declared.language.fault.LanguageFault.{LanguageFault}
 use Rattle.spv_parser.specs.language.Texts.{names_with, IsTreeOf, IsFaultOf}
@@ -15,7 +15,10 @@ use Rattle.spv_verify.specs.texts.Trees.{ReadsText}
 use Rattle.spv_verify.specs.refused.Told.{text_refusal}
 use Rattle.spv_verify.specs.tree_reports.Walks.{IsSound}
 use Rattle.spv_verify.specs.tree_reports.RuleFiles.{names_under, AreRulesOf}
+use Rattle.spv_verify.specs.tree_reports.Listings.{IsListed}
 use Rattle.spv_verify.specs.tree_reports.Programs.{IsTreeRefusal}
+use Rattle.spv_listing_values.specs.declared.data.Claim.{Claim}
+use Rattle.spv_listing_values.specs.Written.{Written}
 
 -- the names of a text, in the order in which they first stand there
 abbrev pub names_of : List ℕ → List (List ℕ)
@@ -39,29 +42,32 @@ pub record IsReadingRefusal (kind : TextKind) (text : List ℕ) (r : Refusal) : 
   pub stops : IsFaultOf (ReadsText kind) [] text fault
   pub told : text_refusal fault ≡ Some r
 
--- with this rule file, or without one, one of the two texts is refused so: the first for a fault of reading, or one of them for a fault of its tree
-abbrev pub IsRefused : TextKind → List ℕ → Option (List ℕ) → Which → Refusal → Type 0
-IsRefused kind text rules w r =
-    ((w ≡ which.Program) × IsReadingRefusal kind text r) ⊎ ((tree : TextTree) × IsTextTree kind text tree × IsTreeRefusal (names_of text) tree rules w r)
+-- with this rule file and this listing, or without them, one of the texts is refused so: the first for a fault of reading, or one of them by its
+-- tree
+abbrev pub IsRefused : TextKind → List ℕ → Option (List ℕ) → Option (List ℕ) → Which → Refusal → Type 0
+IsRefused kind text rules listing w r =
+    ((w ≡ which.Program) × IsReadingRefusal kind text r) ⊎ ((tree : TextTree) × IsTextTree kind text tree × IsTreeRefusal (names_of text) tree rules listing w r)
 
 -- ---- reports
 
--- the report is on the program of the text under the rules of the rule file; neither is refused; and it has the names of both
-pub record IsReportOf (kind : TextKind) (text : List ℕ) (rules : Option (List ℕ)) (r : Findings) : Type 0 where
+-- the report is on the program of the text under the rules of the rule file and for the listing of these bytes; none of them is refused; and it
+-- has the names of text and rule file
+pub record IsReportOf (kind : TextKind) (text : List ℕ) (rules listing : Option (List ℕ)) (r : Findings) : Type 0 where
   pub program : Program
   pub of_text : IsProgramOf kind text program
   pub is_on : IsReportOn program r
   pub not_refused : IsNotRefused program r
   pub names : r.named.names ≡ names_under (names_of text) rules
   pub under : AreRulesOf (names_of text) program rules (rules_in r.rules)
+  pub listed : IsListed listing r.listing
 
 -- ---- laws
 
 -- no text is refused and has a report
 abbrev pub HaveNotBoth : Type 0
 HaveNotBoth =
-    (kind : TextKind) (text : List ℕ) (rules : Option (List ℕ)) (f : Findings) (w : Which) (r : Refusal) → IsReportOf kind text rules f
-    → IsRefused kind text rules w r → ⊥
+    (kind : TextKind) (text : List ℕ) (rules listing : Option (List ℕ)) (f : Findings) (w : Which) (r : Refusal) → IsReportOf kind text rules listing f
+    → IsRefused kind text rules listing w r → ⊥
 
 -- a text is one program
 abbrev pub IsOneProgram : Type 0
@@ -72,3 +78,7 @@ abbrev pub IsOneList : Type 0
 IsOneList =
     (names : List (List ℕ)) (p : Program) (rules : Option (List ℕ)) (first second : List Rule) → AreRulesOf names p rules first
     → AreRulesOf names p rules second → first ≡ second
+
+-- bytes are one listing
+abbrev pub IsOneListing : Type 0
+IsOneListing = (bytes : Option (List ℕ)) (first second : Option (List (Claim Written))) → IsListed bytes first → IsListed bytes second → first ≡ second

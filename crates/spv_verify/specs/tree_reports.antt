@@ -1,3 +1,4 @@
 pub mod Walks
 pub mod RuleFiles
+pub mod Listings
 pub mod Programs

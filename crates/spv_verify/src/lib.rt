@@ -9,4 +9,4 @@ mod verifying;
 
 pub use crate::refused::{Refusal, VerifyFault, Which};
 pub use spv_reports::{Limits, Load, Mode, Report, default_limits, law_report};
-pub use verifying::{law_not_both, list, report_of, simplify, verify};
+pub use verifying::{law_not_both, list, recheck, report_of, simplify, verify};

@@ -8,4 +8,4 @@ mod told;
 pub(crate) use fault::fault_of;
 pub use fault::{TextFault, VerifyFault, Which};
 pub use refusal::Refusal;
-pub use told::{of_frames, of_limits, of_rules, of_text, of_types};
+pub use told::{of_frames, of_limits, of_listing, of_rules, of_text, of_types};

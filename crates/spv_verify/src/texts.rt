@@ -30,6 +30,6 @@ pub fn kind_of(mode: &Mode) -> TextKind
 {
     match mode {
         Mode::Simplify(_) => TextKind::Formula,
-        Mode::Verify(_) | Mode::Conditions | Mode::Drill(_, _) => TextKind::Program,
+        Mode::Verify(_) | Mode::Check | Mode::Conditions | Mode::Drill(_, _) => TextKind::Program,
     }
 }

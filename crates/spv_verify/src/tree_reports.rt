@@ -1,6 +1,8 @@
-//! The report of a text's tree: the walks over names, types and frames, then the rules of a rule file, and then the report of the program.
+//! The report of a text's tree: the walks over names, types and frames, then the rules of a rule file, then a listing, and then the report of
+//! the program.
 
 mod arenas;
+mod listings;
 mod rule_files;
 mod walks;
 

@@ -17,7 +17,7 @@ use Rattle.spv_tableau_rules.specs.tableaux.Walks.{Start}
 use Rattle.spv_models.specs.split_trees.Trees.{Open, Split, no_trees, trees}
 use Rattle.spv_verdicts.specs.Verdicts.{Instance, Proved, Unproved, GaveUp, NotAccepted, Splits, TooManyInstances, WideForm, WideSum, WideEvaluation, Pivots, TooManyTerms}
 use Rattle.spv_listing.specs.verdict_pages.VerdictLines.{verdict_lines}
-use Rattle.spv_listing.specs.verdict_pages.Totals.{total_lines, counts_line, result_text}
+use Rattle.spv_listing.specs.verdict_pages.Totals.{total_lines, checked_total_lines, counts_line, result_text}
 
 -- two names, and terms of whole numbers
 abbrev pub names : List (List ℕ)
@@ -172,11 +172,20 @@ NoConditions = total_lines [] ≡ codes "TOTAL 0 PROVED 0 UNPROVED 0 GAVE UP\nRE
 
 -- how many there are
 abbrev pub Counts : Type 0
-Counts = counts_line 12 1 30 ≡ codes "TOTAL 12 PROVED 1 UNPROVED 30 GAVE UP\n"
+Counts = counts_line (codes "UNPROVED") 12 1 30 ≡ codes "TOTAL 12 PROVED 1 UNPROVED 30 GAVE UP\n"
 
 -- what is unproved comes before what was given up
 abbrev pub UnprovedComesFirst : Type 0
-UnprovedComesFirst = result_text 1 30 ≡ codes "RESULT UNPROVED"
+UnprovedComesFirst = result_text (codes "UNPROVED") 1 30 ≡ codes "RESULT UNPROVED"
 
 abbrev pub GivenUpComesSecond : Type 0
-GivenUpComesSecond = result_text 0 30 ≡ codes "RESULT GAVE UP"
+GivenUpComesSecond = result_text (codes "UNPROVED") 0 30 ≡ codes "RESULT GAVE UP"
+
+-- of proofs that were checked: of none, and of some
+abbrev pub NothingToCheck : Type 0
+NothingToCheck = checked_total_lines [] ≡ codes "TOTAL 0 PROVED 0 NOT ACCEPTED 0 GAVE UP\nRESULT PROVED\n"
+
+abbrev pub OneIsNotAccepted : Type 0
+OneIsNotAccepted =
+    (counts_line (codes "NOT ACCEPTED") 12 1 30 ≡ codes "TOTAL 12 PROVED 1 NOT ACCEPTED 30 GAVE UP\n")
+    × (result_text (codes "NOT ACCEPTED") 1 30 ≡ codes "RESULT NOT ACCEPTED")

@@ -1,6 +1,6 @@
 // Lines worked by hand, each law the contract of a function that does nothing.
 
-ghost use Rattle.spv_listing.specs.verdict_pages.Rows.{HalfIsUnproved, LoopIsUnproved, InstanceIsBetween, ThreeInstances, WideProduct, OtherProof, NoSplits, TwoSplits, NoPivots, ManyTerms, WideRelation, WideQuotient, GapIsProved, GapIsBare, CasesAreInOrder, NoConditions, Counts, UnprovedComesFirst, GivenUpComesSecond};
+ghost use Rattle.spv_listing.specs.verdict_pages.Rows.{HalfIsUnproved, LoopIsUnproved, InstanceIsBetween, ThreeInstances, WideProduct, OtherProof, NoSplits, TwoSplits, NoPivots, ManyTerms, WideRelation, WideQuotient, GapIsProved, GapIsBare, CasesAreInOrder, NoConditions, Counts, UnprovedComesFirst, GivenUpComesSecond, NothingToCheck, OneIsNotAccepted};
 
 /// Lines of verdicts with a table.
 pub fn law_unproved_lines()
@@ -39,4 +39,6 @@ pub fn law_totals()
     ensures counts { Counts }
     ensures unproved { UnprovedComesFirst }
     ensures given_up { GivenUpComesSecond }
+    ensures nothing_checked { NothingToCheck }
+    ensures not_accepted { OneIsNotAccepted }
 {}

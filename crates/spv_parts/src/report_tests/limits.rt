@@ -1,6 +1,6 @@
 //! Worked searches within limits.
 
-use spv_reports::{Decided, Limit, Limits, Report, Verdict, all_proved, none_unproved};
+use spv_reports::{Decided, Limit, Limits, Report, Verdict, all_proved, none_fails};
 use spv_verdicts::answers::SplitNode;
 use spv_verify::refused::VerifyFault;
 use spv_verify::verify;
@@ -35,7 +35,7 @@ fn a_choice_wants_a_split(rt: HostRuntime) -> Result<(), Fail> {
         b"PROGRAM shared; VAR x, y: INTEGER; DECLARE F(INTEGER): INTEGER;\nENTRY (x = 1) OR (x = 2); EXIT x <= 2; BEGIN END.",
     )?;
     assert!(rt; matches!(report.verdicts(), [decided] if is_one_open_node(decided)));
-    assert!(rt; none_unproved(report.verdicts()));
+    assert!(rt; none_fails(report.mode(), report.verdicts()));
     Ok(())
 }
 

@@ -20,14 +20,16 @@ use Rattle.spv_verify.specs.declared.refused.fault.VerifyFault.TheVariants as ve
 use Rattle.spv_verify.specs.refused.Told.{Tells, fault_of, type_refusal, frame_refusal, limit_refusal}
 use Rattle.spv_assign.specs.declared.creation_trace.faults.GenFault.{GenFault}
 use Rattle.spv_assign.specs.declared.creation_trace.faults.GenFault.TheVariants as limit
-use Rattle.spv_proof_rules.specs.Rules.{Rule}
 use Rattle.spv_rules.specs.RuleSets.{RuleSet, rules_in}
 use Rattle.spv_reports.specs.declared.mode.Mode.{Mode}
 use Rattle.spv_reports.specs.Reports.{Findings}
 use Rattle.spv_conditions.specs.Making.{IsLimit}
 use Rattle.spv_verify.specs.tree_reports.Walks.{IsTypeCause, IsFrameCause, IsSound, IsWalkCause, is_typed_as}
+use Rattle.spv_listing_values.specs.declared.data.Claim.{Claim}
+use Rattle.spv_listing_values.specs.Written.{Written}
 use Rattle.spv_verify.specs.tree_reports.RuleFiles.{AreRulesOf, IsRulesCause, names_under}
-use Rattle.spv_verify.specs.tree_reports.Programs.{IsLimitedReport, IsProgramCause, IsRuledCause, IsTreeCause, IsRuledReport, IsTreeReport}
+use Rattle.spv_verify.specs.tree_reports.Listings.{IsListed, IsListingCause}
+use Rattle.spv_verify.specs.tree_reports.Programs.{IsLimitedReport, IsListedCause, IsListedReport, IsProgramCause, IsRuledCause, IsTreeCause, IsRuledReport, IsTreeReport}
 
 pub type_cause : (names : List (List ℕ)) (tree : TextTree) (fault : TypeFault) (v : TextFault)
     → TypeStops fault (tree_walk (known_in names) tree) → Tells (type_refusal names fault) v → IsTypeCause names tree v
@@ -66,52 +68,89 @@ limit_told p (limit.Terms n) (Refused r) tells meets = record { limit = limit.Te
 limit_told p limit.Memory (Refused r) tells is = absurd (none-some _ tells)
 limit_told p e Memory tells is = tt
 
--- ---- of a program and a rule file
+-- ---- of a program and a listing
 
-rules_cause : (names : List (List ℕ)) (p : Program) (rules : Option (List ℕ)) (v : TextFault) → IsRulesCause names p rules v → IsRuledCause names p rules (fault_of which.Rules v)
-rules_cause names p rules (Refused r) is = is
-rules_cause names p rules Memory is = tt
+module _ (p : Program) (listing : Option (List ℕ)) where
+  listing_cause : (v : TextFault) → IsListingCause listing v → IsListedCause p listing (fault_of which.Listing v)
+  listing_cause (Refused r) is = is
+  listing_cause Memory is = tt
 
-pub rules_told : (names : List (List ℕ)) (p : Program) (rules : Option (List ℕ)) (v : TextFault) (w : VerifyFault) → w ≡ fault_of which.Rules v → IsRulesCause names p rules v → IsRuledCause names p rules w
-rules_told names p rules v w same is = subst (IsRuledCause names p rules) (sym same) (rules_cause names p rules v is)
+  pub listing_told : (v : TextFault) (w : VerifyFault) → w ≡ fault_of which.Listing v → IsListingCause listing v → IsListedCause p listing w
+  listing_told v w same is = subst (IsListedCause p listing) (sym same) (listing_cause v is)
 
-limits_cause : (names : List (List ℕ)) (p : Program) (rules : Option (List ℕ)) (list : List Rule) (v : TextFault) → AreRulesOf names p rules list → IsProgramCause p v
-    → IsRuledCause names p rules (fault_of which.Program v)
-limits_cause names p rules list (Refused r) are is = ((list, are), is)
-limits_cause names p rules list Memory are is = tt
+  limits_cause : (entries : Option (List (Claim Written))) (v : TextFault) → IsListed listing entries → IsProgramCause p v → IsListedCause p listing (fault_of which.Program v)
+  limits_cause entries (Refused r) listed is = ((entries, listed), is)
+  limits_cause entries Memory listed is = tt
 
-pub limits_told : (names : List (List ℕ)) (p : Program) (rules : Option (List ℕ)) (set : RuleSet) (v : TextFault) (w : VerifyFault) → w ≡ fault_of which.Program v → AreRulesOf names p rules (rules_in set)
-    → IsProgramCause p v → IsRuledCause names p rules w
-limits_told names p rules set v w same are is = subst (IsRuledCause names p rules) (sym same) (limits_cause names p rules (rules_in set) v are is)
+  pub limits_told : (entries : Option (List (Claim Written))) (v : TextFault) (w : VerifyFault) → w ≡ fault_of which.Program v → IsListed listing entries → IsProgramCause p v → IsListedCause p listing w
+  limits_told entries v w same listed is = subst (IsListedCause p listing) (sym same) (limits_cause entries v listed is)
 
-pub ruled_report : (names more : List (List ℕ)) (p : Program) (rules : Option (List ℕ)) (set : RuleSet) (mode : Mode) (r : Findings) → more ≡ names_under names rules
-    → AreRulesOf names p rules (rules_in set) → IsLimitedReport more p set mode r → IsRuledReport names p rules mode r
-ruled_report names more p rules set mode r same are is = record {
+pub listed_report : (names : List (List ℕ)) (p : Program) (set : RuleSet) (listing : Option (List ℕ)) (entries : Option (List (Claim Written))) (mode : Mode) (r : Findings) → IsListed listing entries
+    → IsLimitedReport names p set entries mode r → IsListedReport names p set listing mode r
+listed_report names p set listing entries mode r listed is = record {
   is_on = is.is_on;
   not_refused = is.not_refused;
-  names_same = is.names_same ∙ same;
-  under = subst (λ (s : RuleSet). AreRulesOf names p rules (rules_in s)) (sym is.rules_same) are;
+  names_same = is.names_same;
+  rules_same = is.rules_same;
+  listed = subst (IsListed listing) (sym is.listing_same) listed;
   mode_same = is.mode_same;
 }
 
+-- ---- of a program, a rule file and a listing
+
+module _ (names : List (List ℕ)) (p : Program) (rules listing : Option (List ℕ)) where
+  rules_cause : (v : TextFault) → IsRulesCause names p rules v → IsRuledCause names p rules listing (fault_of which.Rules v)
+  rules_cause (Refused r) is = is
+  rules_cause Memory is = tt
+
+  pub rules_told : (v : TextFault) (w : VerifyFault) → w ≡ fault_of which.Rules v → IsRulesCause names p rules v → IsRuledCause names p rules listing w
+  rules_told v w same is = subst (IsRuledCause names p rules listing) (sym same) (rules_cause v is)
+
+  listed_cause : (set : RuleSet) (v : VerifyFault) → AreRulesOf names p rules (rules_in set) → IsListedCause p listing v → IsRuledCause names p rules listing v
+  listed_cause set (verify.Refused which.Program r) are is = ((rules_in set, are), is)
+  listed_cause set (verify.Refused which.Rules r) are is = absurd is
+  listed_cause set (verify.Refused which.Listing r) are is = ((rules_in set, are), is)
+  listed_cause set verify.Memory are is = tt
+
+  pub listed_causes : {T : Type 0} (set : RuleSet) (r : Result T VerifyFault) → AreRulesOf names p rules (rules_in set) → IfErr r (IsListedCause p listing) → IfErr r (IsRuledCause names p rules listing)
+  listed_causes set (Ok x) are h = tt
+  listed_causes set (Err v) are h = listed_cause set v are h
+
+  ruled_report : (more : List (List ℕ)) (set : RuleSet) (mode : Mode) (r : Findings) → more ≡ names_under names rules
+      → AreRulesOf names p rules (rules_in set) → IsListedReport more p set listing mode r → IsRuledReport names p rules listing mode r
+  ruled_report more set mode r same are is = record {
+    is_on = is.is_on;
+    not_refused = is.not_refused;
+    names_same = is.names_same ∙ same;
+    under = subst (λ (s : RuleSet). AreRulesOf names p rules (rules_in s)) (sym is.rules_same) are;
+    listed = is.listed;
+    mode_same = is.mode_same;
+  }
+
+  pub ruled_reports : {T : Type 0} (of : T → Findings) (more : List (List ℕ)) (set : RuleSet) (mode : Mode) (r : Result T VerifyFault) → more ≡ names_under names rules
+      → AreRulesOf names p rules (rules_in set) → IfOk r (λ x. IsListedReport more p set listing mode (of x)) → IfOk r (λ x. IsRuledReport names p rules listing mode (of x))
+  ruled_reports of more set mode (Ok x) same are h = ruled_report more set mode (of x) same are h
+  ruled_reports of more set mode (Err v) same are h = tt
+
 -- ---- of a tree
 
-walk_cause : (names : List (List ℕ)) (tree : TextTree) (rules : Option (List ℕ)) (v : TextFault) → IsWalkCause names tree v → IsTreeCause names tree rules (fault_of which.Program v)
-walk_cause names tree rules (Refused r) is = inl (refl, is)
-walk_cause names tree rules Memory is = tt
+module _ (names : List (List ℕ)) (tree : TextTree) (rules listing : Option (List ℕ)) where
+  walk_cause : (v : TextFault) → IsWalkCause names tree v → IsTreeCause names tree rules listing (fault_of which.Program v)
+  walk_cause (Refused r) is = inl (refl, is)
+  walk_cause Memory is = tt
 
-pub walk_told : (names : List (List ℕ)) (tree : TextTree) (rules : Option (List ℕ)) (v : TextFault) (w : VerifyFault) → w ≡ fault_of which.Program v → IsWalkCause names tree v → IsTreeCause names tree rules w
-walk_told names tree rules v w same is = subst (IsTreeCause names tree rules) (sym same) (walk_cause names tree rules v is)
+  pub walk_told : (v : TextFault) (w : VerifyFault) → w ≡ fault_of which.Program v → IsWalkCause names tree v → IsTreeCause names tree rules listing w
+  walk_told v w same is = subst (IsTreeCause names tree rules listing) (sym same) (walk_cause v is)
 
-module _ (mode : Mode) (names : List (List ℕ)) (tree : TextTree) (rules : Option (List ℕ)) (p : Program) (sound : IsSound names tree p) where
-  ruled_tree_cause : (v : VerifyFault) → IsRuledCause names p rules v → IsTreeCause names tree rules v
-  ruled_tree_cause (verify.Refused w r) is = inr (p, sound, is)
-  ruled_tree_cause verify.Memory is = tt
+  module _ (mode : Mode) (p : Program) (sound : IsSound names tree p) where
+    ruled_tree_cause : (v : VerifyFault) → IsRuledCause names p rules listing v → IsTreeCause names tree rules listing v
+    ruled_tree_cause (verify.Refused w r) is = inr (p, sound, is)
+    ruled_tree_cause verify.Memory is = tt
 
-  pub ruled_tree_causes : {T : Type 0} (r : Result T VerifyFault) → IfErr r (IsRuledCause names p rules) → IfErr r (IsTreeCause names tree rules)
-  ruled_tree_causes (Ok x) h = tt
-  ruled_tree_causes (Err v) h = ruled_tree_cause v h
+    pub ruled_tree_causes : {T : Type 0} (r : Result T VerifyFault) → IfErr r (IsRuledCause names p rules listing) → IfErr r (IsTreeCause names tree rules listing)
+    ruled_tree_causes (Ok x) h = tt
+    ruled_tree_causes (Err v) h = ruled_tree_cause v h
 
-  pub tree_reports : {T : Type 0} (of : T → Findings) (r : Result T VerifyFault) → IfOk r (λ x. IsRuledReport names p rules mode (of x)) → IfOk r (λ x. IsTreeReport names tree rules mode (of x))
-  tree_reports of (Ok x) h = record { program = p; sound = sound; ruled = h }
-  tree_reports of (Err v) h = tt
+    pub tree_reports : {T : Type 0} (of : T → Findings) (r : Result T VerifyFault) → IfOk r (λ x. IsRuledReport names p rules listing mode (of x)) → IfOk r (λ x. IsTreeReport names tree rules listing mode (of x))
+    tree_reports of (Ok x) h = record { program = p; sound = sound; ruled = h }
+    tree_reports of (Err v) h = tt

@@ -1,7 +1,7 @@
 -- The parts of a refusal: its number and word, its line, and what is told behind it.
 use Rattle.std.specs.Prelude.{ℕ, List, codes}
 use Rattle.spv_verify.specs.declared.refused.refusal.Refusal.{Refusal}
-use Rattle.spv_verify.specs.declared.refused.refusal.Refusal.TheVariants.{Byte, Comment, Numeral, Length, Syntax, Depth, Profile, Undeclared, Twice, Typing, Count, Alias, Nested, Parameter, Control, Global, Function, Size, Unbound}
+use Rattle.spv_verify.specs.declared.refused.refusal.Refusal.TheVariants.{Byte, Comment, Numeral, Length, Syntax, Depth, Profile, Undeclared, Twice, Typing, Count, Alias, Nested, Parameter, Control, Global, Function, Size, Unbound, Listing}
 
 -- the number and the word of a refusal
 abbrev pub reason : Refusal → List ℕ
@@ -24,6 +24,7 @@ reason (Global line detail) = codes "16 GLOBAL"
 reason (Function line detail) = codes "17 FUNCTION"
 reason (Size line detail) = codes "19 SIZE"
 reason (Unbound line detail) = codes "20 UNBOUND"
+reason (Listing line detail) = codes "21 LISTING"
 
 abbrev pub line_of : Refusal → ℕ
 line_of (Byte line detail) = line
@@ -45,6 +46,7 @@ line_of (Global line detail) = line
 line_of (Function line detail) = line
 line_of (Size line detail) = line
 line_of (Unbound line detail) = line
+line_of (Listing line detail) = line
 
 -- what is told behind the line
 abbrev pub detail_of : Refusal → List ℕ
@@ -67,3 +69,4 @@ detail_of (Global line detail) = detail
 detail_of (Function line detail) = detail
 detail_of (Size line detail) = detail
 detail_of (Unbound line detail) = detail
+detail_of (Listing line detail) = detail

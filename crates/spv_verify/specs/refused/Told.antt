@@ -16,9 +16,11 @@ use Rattle.spv_effects.specs.declared.frame_walk.faults.FrameFault.TheVariants a
 use Rattle.spv_assign.specs.declared.creation_trace.faults.GenFault.{GenFault}
 use Rattle.spv_assign.specs.declared.creation_trace.faults.GenFault.TheVariants as limits
 use Rattle.spv_verify.specs.declared.refused.refusal.Refusal.{Refusal}
-use Rattle.spv_verify.specs.declared.refused.refusal.Refusal.TheVariants.{Byte, Comment, Numeral, Length, Syntax, Depth, Profile, Undeclared, Twice, Typing, Count, Alias, Nested, Parameter, Control, Global, Function, Size, Unbound}
+use Rattle.spv_verify.specs.declared.refused.refusal.Refusal.TheVariants.{Byte, Comment, Numeral, Length, Syntax, Depth, Profile, Undeclared, Twice, Typing, Count, Alias, Nested, Parameter, Control, Global, Function, Size, Unbound, Listing}
 use Rattle.spv_rule_files.specs.declared.faults.RuleFault.{RuleFault}
 use Rattle.spv_rule_files.specs.declared.faults.RuleFault.TheVariants as rules
+use Rattle.spv_listing_values.specs.declared.fault.ListFault.{ListFault}
+use Rattle.spv_listing_values.specs.declared.fault.ListFault.TheVariants as no_listing
 use Rattle.spv_verify.specs.declared.refused.fault.Which.{Which}
 use Rattle.spv_verify.specs.declared.refused.fault.TextFault.{TextFault}
 use Rattle.spv_verify.specs.declared.refused.fault.TextFault.TheVariants.{Refused, Memory}
@@ -68,6 +70,12 @@ abbrev pub rule_refusal : List (List ℕ) → RuleFault → Option Refusal
 rule_refusal names (rules.Typing fault) = type_refusal names fault
 rule_refusal names (rules.Unbound line x) = Some (Unbound line (name_text names x))
 rule_refusal names rules.Memory = None
+
+-- of bytes that are no listing
+abbrev pub listing_refusal : ListFault → Option Refusal
+listing_refusal no_listing.TooLong = Some (Length 1 [])
+listing_refusal (no_listing.Form line) = Some (Listing line [])
+listing_refusal no_listing.Memory = None
 
 -- of a program whose conditions meet a limit
 abbrev pub limit_refusal : GenFault → Option Refusal

@@ -35,6 +35,8 @@ pub enum Which {
     Program,
     /// The rule file.
     Rules,
+    /// The listing whose proofs are checked.
+    Listing,
 }
 
 /// Why there is no report.

@@ -19,7 +19,7 @@ pub enum Refusal {
     /// A numeral above 9223372036854775807.
     #[error("line {0}: the numeral is too large")]
     Numeral(u32, List<u8>),
-    /// A text of more than 4194304 bytes. The line is 1.
+    /// A text of more than 4194304 bytes, or a listing of more than 67108864. The line is 1.
     #[error("the text is too long")]
     Length(u32, List<u8>),
     /// Tokens that no program of the language has. The line is the one at which they go wrong: that of the token
@@ -69,6 +69,9 @@ pub enum Refusal {
     /// A variable of a rule that is not in the trigger of the rule. The line is that where it first stands in the rule; its name is told.
     #[error("line {0}: this variable is not in the trigger of its rule")]
     Unbound(u32, List<u8>),
+    /// Bytes that no listing has. The line is that where they differ from a listing, or another one of theirs.
+    #[error("line {0}: no listing has these bytes")]
+    Listing(u32, List<u8>),
 }
 
 impl Refusal {
@@ -96,6 +99,7 @@ impl Refusal {
             Refusal::Function(line, _) => *line,
             Refusal::Size(line, _) => *line,
             Refusal::Unbound(line, _) => *line,
+            Refusal::Listing(line, _) => *line,
         }
     }
 
@@ -123,6 +127,7 @@ impl Refusal {
             Refusal::Function(_, detail) => detail.as_slice(),
             Refusal::Size(_, detail) => detail.as_slice(),
             Refusal::Unbound(_, detail) => detail.as_slice(),
+            Refusal::Listing(_, detail) => detail.as_slice(),
         }
     }
 
@@ -150,6 +155,7 @@ impl Refusal {
             Refusal::Function(_, _) => b"17 FUNCTION",
             Refusal::Size(_, _) => b"19 SIZE",
             Refusal::Unbound(_, _) => b"20 UNBOUND",
+            Refusal::Listing(_, _) => b"21 LISTING",
         }
     }
 }

@@ -1,4 +1,4 @@
-// What a fault of reading, of names and types, of frames, or of rules is told as.
+// What a fault of reading, of names and types, of frames, of rules, or of a listing is told as.
 
 ghost use Rattle.std.specs.Prelude.{◌≡◌, IfOk, Some};
 ghost use Rattle.spv_verify.specs.refused.Told as spec;
@@ -13,6 +13,7 @@ use crate::refused::refusal::Refusal;
 use spv_assign::creation_trace::GenFault;
 use spv_effects::frame_walk::FrameFault;
 use spv_lexer::LexFault;
+use spv_listing_values::fault::ListFault;
 use spv_logic::list::List;
 use spv_logic::names::{Names, Symbol};
 use spv_parser::SyntaxFault;
@@ -119,6 +120,17 @@ fn rule_refusal(alloc: Global, names: &Names, fault: RuleFault) -> Result<Refusa
     }
 }
 
+// The refusal of bytes that are no listing.
+fn listing_refusal(alloc: Global, fault: ListFault) -> Result<Refusal, AllocError>
+    ensures { IfOk result (λ r. spec.listing_refusal fault ≡ Some r) }
+{
+    match fault {
+        ListFault::TooLong => Ok(Refusal::Length(1, List::new(alloc))),
+        ListFault::Form(line) => Ok(Refusal::Listing(line, List::new(alloc))),
+        ListFault::Memory => Err(AllocError),
+    }
+}
+
 // The refusal of a program whose conditions meet a limit.
 fn limit_refusal(alloc: Global, fault: GenFault) -> Result<Refusal, AllocError>
     ensures { IfOk result (λ r. spec.limit_refusal fault ≡ Some r) }
@@ -171,6 +183,13 @@ pub fn of_rules(alloc: Global, names: &Names, fault: RuleFault) -> TextFault
     ensures { Tells (spec.rule_refusal names.now fault) result }
 {
     told(rule_refusal(alloc, names, fault))
+}
+
+/// What bytes are told to be refused for that are no listing.
+pub fn of_listing(alloc: Global, fault: ListFault) -> TextFault
+    ensures { Tells (spec.listing_refusal fault) result }
+{
+    told(listing_refusal(alloc, fault))
 }
 
 /// What a program is told to be refused for whose conditions, or their terms, are more than there may be.

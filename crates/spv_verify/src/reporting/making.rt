@@ -12,6 +12,7 @@ ghost use Rattle.spv_reports.specs.Reports.{IsNotRefused, IsReportOn};
 use crate::reporting::deciding::decided;
 use spv_assign::creation_trace::GenFault;
 use spv_conditions::{conditions, law_sorted_conditions};
+use spv_listing_values::Listing;
 use spv_logic::list::List;
 use spv_logic::names::{Names, Symbol};
 use spv_program::typed::{Program, Routine};
@@ -29,24 +30,34 @@ pub(crate) struct Parts {
     pub(crate) verdicts: Vec<Decided>,
 }
 
-// The conditions of a program, and the verdicts on them under rules.
+// The conditions of a program, and the verdicts on them under rules and for a listing.
 #[tactic(auto, using(crate::proofs::reporting::Formulas::all_formulas))]
 fn make_parts(
     alloc: Global,
     program: &Program,
+    named: &ProgramNames,
     rules: &Rules,
+    listing: &Option<Listing>,
     mode: &Mode,
 ) -> Result<Parts, GenFault>
     requires typed { IsTrue (well_typed program.now) }
     requires shapes { rules.now.arena.shapes ≡ shapes program.now }
     requires decls { rules.now.arena.decls ≡ program.now.symbols }
-    ensures parts { IfOk result (AreParts program.now mode.now (rules_in rules.now)) }
+    ensures parts { IfOk result (AreParts program.now named.now mode.now listing.now (rules_in rules.now)) }
     ensures fault { IfErr result (λ e. IsLimit e program.now) }
 {
     let made = conditions(alloc, program)?;
     made.terms.law_arena();
     law_sorted_conditions();
-    let verdicts = decided(alloc, mode, &made.terms, made.list.as_slice(), rules)?;
+    let verdicts = decided(
+        alloc,
+        mode,
+        listing,
+        named,
+        &made.terms,
+        made.list.as_slice(),
+        rules,
+    )?;
     Ok(Parts {
         terms: made.terms,
         conditions: made.list,
@@ -55,13 +66,14 @@ fn make_parts(
 }
 
 /// The report on a program under rules over its types and symbols, for what its mode says: the conditions of the definition, in its
-/// order, and but for the mode `Conditions` a verdict on each, within its limits. Else the limit that the conditions meet, or that there
-/// is no memory left.
+/// order, and but for the mode `Conditions` a verdict on each, within its limits, or in the mode `Check` on the proof that a listing has.
+/// Else the limit that the conditions meet, or that there is no memory left.
 pub fn report_on(
     alloc: Global,
     names: Names,
     program: &Program,
     rules: Rules,
+    listing: Option<Listing>,
     mode: Mode,
 ) -> Result<Report, GenFault>
     requires typed { IsTrue (well_typed program.now) }
@@ -70,19 +82,21 @@ pub fn report_on(
     requires decls { rules.arena.decls ≡ program.now.symbols }
     ensures names { IfOk result (λ r. r.named.names ≡ names) }
     ensures rules { IfOk result (λ r. r.rules ≡ rules) }
+    ensures listing { IfOk result (λ r. r.listing ≡ listing) }
     ensures mode { IfOk result (λ r. r.mode ≡ mode) }
     ensures program { IfOk result (IsReportOn program.now) }
     ensures not_refused { IfOk result (IsNotRefused program.now) }
     ensures fault { IfErr result (λ e. IsLimit e program.now) }
 {
     let named = named_by(alloc, names, program)?;
-    let parts = make_parts(alloc, program, &rules, &mode)?;
+    let parts = make_parts(alloc, program, &named, &rules, &listing, &mode)?;
     Ok(Report::new(
         named,
         parts.terms,
         parts.conditions,
         rules,
         mode,
+        listing,
         parts.verdicts,
     ))
 }

@@ -7,14 +7,16 @@ ghost use Rattle.spv_typing.specs.Known.{known_in};
 ghost use Rattle.spv_environments.specs.Answers.{Stops};
 ghost use Rattle.spv_verify.specs.texts.Trees.{IsFormed, tree_walk};
 ghost use Rattle.spv_program.specs.Programs.{shapes};
-ghost use Rattle.spv_verify.specs.tree_reports.Programs.{IsLimitedReport, IsProgramCause, IsRuledCause, IsRuledReport, IsTreeCause, IsTreeReport};
+ghost use Rattle.spv_verify.specs.tree_reports.Programs.{IsLimitedReport, IsListedCause, IsListedReport, IsProgramCause, IsRuledCause, IsRuledReport, IsTreeCause, IsTreeReport};
 ghost use Rattle.spv_verify.specs.tree_reports.Walks.{IsFrameCause, IsOfTree, IsSound, IsTypeCause, IsWalkCause, is_typed_as};
 
 use crate::refused::{TextFault, VerifyFault, Which, fault_of, of_frames, of_limits, of_types};
 use crate::reporting::report_on;
 use crate::texts::TextTree;
+use crate::tree_reports::listings::listing_for;
 use crate::tree_reports::rule_files::rules_for;
 use spv_frame_check::checked;
+use spv_listing_values::Listing;
 use spv_logic::names::Names;
 use spv_reports::{Mode, Report};
 use spv_rules::Rules;
@@ -79,60 +81,87 @@ fn sound_program(alloc: Global, tree: &TextTree, names: &Names) -> Result<Typed,
     }
 }
 
-// The report of a program without faults under these rules, or that its conditions meet a limit.
+// The report of a program without faults under these rules and for this listing, or that its conditions meet a limit.
 #[tactic(auto, using(crate::proofs::tree_reports::Causes::limit_told))]
 fn limited_report(
     alloc: Global,
     names: Names,
     program: &spv_program::typed::Program,
     rules: Rules,
+    listing: Option<Listing>,
     mode: Mode,
 ) -> Result<Report, TextFault>
     requires typed { IsTrue (well_typed program.now) }
     requires framed { frame_fault program.now ≡ None }
     requires shapes { rules.arena.shapes ≡ shapes program.now }
     requires decls { rules.arena.decls ≡ program.now.symbols }
-    ensures report { IfOk result (IsLimitedReport names program.now rules mode) }
+    ensures report { IfOk result (IsLimitedReport names program.now rules listing mode) }
     ensures cause { IfErr result (IsProgramCause program.now) }
 {
-    match report_on(alloc, names, program, rules, mode) {
+    match report_on(alloc, names, program, rules, listing, mode) {
         Ok(report) => Ok(report),
         Err(fault) => Err(of_limits(alloc, fault)),
     }
 }
 
-// The report of a program without faults under the rules of a rule file, or what the file is refused for, or that the conditions of the
-// program meet a limit.
-#[tactic(auto, using(crate::proofs::tree_reports::Causes::rules_told, crate::proofs::tree_reports::Causes::limits_told, crate::proofs::tree_reports::Causes::ruled_report))]
+// The report of a program without faults under these rules and for a listing, or what the listing is refused for, or that the conditions of
+// the program meet a limit.
+#[tactic(auto, using(crate::proofs::tree_reports::Causes::listing_told, crate::proofs::tree_reports::Causes::limits_told, crate::proofs::tree_reports::Causes::listed_report))]
+fn listed_report(
+    alloc: Global,
+    program: &spv_program::typed::Program,
+    names: Names,
+    rules: Rules,
+    listing: Option<&[u8]>,
+    mode: Mode,
+) -> Result<Report, VerifyFault>
+    requires typed { IsTrue (well_typed program.now) }
+    requires framed { frame_fault program.now ≡ None }
+    requires shapes { rules.arena.shapes ≡ shapes program.now }
+    requires decls { rules.arena.decls ≡ program.now.symbols }
+    ensures report { IfOk result (IsListedReport names program.now rules (option_copied listing.entry) mode) }
+    ensures cause { IfErr result (IsListedCause program.now (option_copied listing.entry)) }
+{
+    let listing = match listing_for(alloc, listing) {
+        Ok(listing) => listing,
+        Err(fault) => return Err(fault_of(Which::Listing, fault)),
+    };
+    match limited_report(alloc, names, program, rules, listing, mode) {
+        Ok(report) => Ok(report),
+        Err(fault) => Err(fault_of(Which::Program, fault)),
+    }
+}
+
+// The report of a program without faults under the rules of a rule file and for a listing, or what one of the two is refused for, or that
+// the conditions of the program meet a limit.
+#[tactic(auto, using(crate::proofs::tree_reports::Causes::rules_told))]
 fn ruled_report(
     alloc: Global,
     program: &spv_program::typed::Program,
     names: Names,
     rules: Option<&[u8]>,
+    listing: Option<&[u8]>,
     mode: Mode,
 ) -> Result<Report, VerifyFault>
     requires few { length names < 2143289344 }
     requires typed { IsTrue (well_typed program.now) }
     requires framed { frame_fault program.now ≡ None }
     requires of_tree { IsOfTree program.now }
-    ensures report { IfOk result (IsRuledReport names program.now (option_copied rules.entry) mode) }
-    ensures cause { IfErr result (IsRuledCause names program.now (option_copied rules.entry)) }
+    ensures report { IfOk result (IsRuledReport names program.now (option_copied rules.entry) (option_copied listing.entry) mode) }
+    ensures cause { IfErr result (IsRuledCause names program.now (option_copied rules.entry) (option_copied listing.entry)) }
 {
     let mut names = names;
     let rules = match rules_for(alloc, rules, program, &mut names) {
         Ok(rules) => rules,
         Err(fault) => return Err(fault_of(Which::Rules, fault)),
     };
-    match limited_report(alloc, names, program, rules, mode) {
-        Ok(report) => Ok(report),
-        Err(fault) => Err(fault_of(Which::Program, fault)),
-    }
+    listed_report(alloc, program, names, rules, listing, mode)
 }
 
-/// The report of a text's tree under the rules of a rule file, for what its mode says; or what one of the two texts is refused for: the
-/// first for its first fault of names and types, else of frames; where it has none, the rule file for its first fault; and where that has
-/// none, the first because its conditions are too many or too large. The tree is well formed, as each tree is that a reading answers, and
-/// the names are those of the table.
+/// The report of a text's tree under the rules of a rule file and for a listing, for what its mode says; or what one of the texts is
+/// refused for: the first for its first fault of names and types, else of frames; where it has none, the rule file for its first fault;
+/// where that has none, the listing, where its bytes are none; and where they are one, the first because its conditions are too many or
+/// too large. The tree is well formed, as each tree is that a reading answers, and the names are those of the table.
 /// Memory: there was not enough of it.
 #[tactic(auto, using(crate::proofs::tree_reports::Causes::walk_told))]
 pub fn report_of(
@@ -140,19 +169,20 @@ pub fn report_of(
     tree: &TextTree,
     names: Names,
     rules: Option<&[u8]>,
+    listing: Option<&[u8]>,
     mode: Mode,
 ) -> Result<Report, VerifyFault>
     requires formed { IsFormed tree.now }
     requires few { length names < 2143289344 }
-    ensures report { IfOk result (IsTreeReport names tree.now (option_copied rules.entry) mode) }
-    ensures cause { IfErr result (IsTreeCause names tree.now (option_copied rules.entry)) }
+    ensures report { IfOk result (IsTreeReport names tree.now (option_copied rules.entry) (option_copied listing.entry) mode) }
+    ensures cause { IfErr result (IsTreeCause names tree.now (option_copied rules.entry) (option_copied listing.entry)) }
 {
     let program = match sound_program(alloc, tree, &names) {
         Ok(program) => program,
         Err(fault) => return Err(fault_of(Which::Program, fault)),
     };
     program.law_well_typed();
-    let answer = ruled_report(alloc, program.program(), names, rules, mode);
+    let answer = ruled_report(alloc, program.program(), names, rules, listing, mode);
     drop(program);
     answer
 }

@@ -29,3 +29,7 @@ returns-clause-unused c = refl
 pub returns-clause-rules : goal.returns-clause-rules
 unfolding clap_on_literals
 returns-clause-rules c = (refl, refl)
+
+pub returns-clause-listing : goal.returns-clause-listing
+unfolding clap_on_literals
+returns-clause-listing c = (refl, refl, refl)

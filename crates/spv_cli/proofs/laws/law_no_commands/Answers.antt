@@ -25,3 +25,7 @@ returns-clause-limit c = (refl, refl, refl, refl, refl)
 pub returns-clause-twice : goal.returns-clause-twice
 unfolding clap_on_literals
 returns-clause-twice c = (refl, refl)
+
+pub returns-clause-no_listing : goal.returns-clause-no_listing
+unfolding clap_on_literals
+returns-clause-no_listing c = (refl, refl)

@@ -9,11 +9,11 @@ use Rattle.spv_listing.proofs.listing.push_blocks.Goals as goal
 
 pub bounds-verdicts-place : goal.bounds-verdicts-place
 bounds-verdicts-place c =
-    subst (λ n. c.loop-place.place < n) (same_length c.args.terms.now c.args.conditions.now c.args.verdicts.now c.requires.verdicts) c.loop-place-test.true
+    subst (λ n. c.loop-place.place < n) (same_length c.args.conditions.now c.args.verdicts.now c.requires.verdicts) c.loop-place-test.true
 
 pub offset_bounds-verdicts-place : goal.offset_bounds-verdicts-place
 offset_bounds-verdicts-place c =
-    let within : c.loop-place.place < length c.args.verdicts.now = subst (λ n. c.loop-place.place < n) (same_length c.args.terms.now c.args.conditions.now c.args.verdicts.now c.requires.verdicts) c.loop-place-test.true in
+    let within : c.loop-place.place < length c.args.verdicts.now = subst (λ n. c.loop-place.place < n) (same_length c.args.conditions.now c.args.verdicts.now c.requires.verdicts) c.loop-place-test.true in
     search (rules, within)
 
 pub push_condition-requires-clause-verdict : goal.push_condition-requires-clause-verdict
@@ -21,7 +21,7 @@ push_condition-requires-clause-verdict c =
     let a = c.args.terms.now in
     let condition = c.index-conditions-place.result in
     let verdict = c.index-verdicts-place.result in
-    let here = verdict_at a c.args.conditions.now c.args.verdicts.now c.loop-place.place condition verdict c.requires.verdicts c.loop-place-test.true in
+    let here = verdict_at c.args.conditions.now c.args.verdicts.now c.loop-place.place condition verdict c.requires.verdicts c.loop-place-test.true in
     subst (λ (d : Decided). VerdictIn d.terms d.verdict) (sym c.index-verdicts-place.is) here
 
 pub push_condition-requires-clause-in_range : goal.push_condition-requires-clause-in_range

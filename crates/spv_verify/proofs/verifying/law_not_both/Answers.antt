@@ -1,4 +1,4 @@
-use Rattle.spv_verify.proofs.Both.{not_both, is_one_program, is_one_list}
+use Rattle.spv_verify.proofs.Both.{not_both, is_one_program, is_one_list, is_one_listing}
 use Rattle.spv_verify.proofs.verifying.law_not_both.Goals as goal
 
 pub returns-clause-both : goal.returns-clause-both
@@ -9,3 +9,6 @@ returns-clause-one c = is_one_program c.law_one_tree.ensures.programs c.law_one_
 
 pub returns-clause-rules : goal.returns-clause-rules
 returns-clause-rules c = is_one_list c.law_one_tree.ensures.rules
+
+pub returns-clause-listing : goal.returns-clause-listing
+returns-clause-listing c = is_one_listing c.law_exact.ensures.one

@@ -9,9 +9,9 @@ use Rattle.spv_verify.proofs.verifying.report_of.Goals as goal
 pub returns-clause-report : goal.returns-clause-report
 returns-clause-report c =
     let is = subst (λ (k : TextKind). IsTextTree k c.args.text.now c.in-Ok.tree) c.kind_of.ensures c.in-Ok.ensures.tree in
-    reports_are c.args.mode (kind_of c.args.mode) c.args.text.now (option_copied c.args.rules) c.in-Ok.tree is _ c.in-Ok.ensures.names (λ (f : Findings). f) c.report_of-report.result c.report_of-report.ensures.report
+    reports_are c.args.mode (kind_of c.args.mode) c.args.text.now (option_copied c.args.rules) (option_copied c.args.listing) c.in-Ok.tree is _ c.in-Ok.ensures.names (λ (f : Findings). f) c.report_of-report.result c.report_of-report.ensures.report
 
 pub returns-clause-cause : goal.returns-clause-cause
 returns-clause-cause c =
     let is = subst (λ (k : TextKind). IsTextTree k c.args.text.now c.in-Ok.tree) c.kind_of.ensures c.in-Ok.ensures.tree in
-    tree_causes c.args.mode (kind_of c.args.mode) c.args.text.now (option_copied c.args.rules) c.in-Ok.tree is _ c.in-Ok.ensures.names c.report_of-report.result c.report_of-report.ensures.cause
+    tree_causes c.args.mode (kind_of c.args.mode) c.args.text.now (option_copied c.args.rules) (option_copied c.args.listing) c.in-Ok.tree is _ c.in-Ok.ensures.names c.report_of-report.result c.report_of-report.ensures.cause

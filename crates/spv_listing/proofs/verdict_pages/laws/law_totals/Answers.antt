@@ -15,3 +15,11 @@ returns-clause-unproved c = refl
 
 pub returns-clause-given_up : goal.returns-clause-given_up
 returns-clause-given_up c = refl
+
+pub returns-clause-nothing_checked : goal.returns-clause-nothing_checked
+unfolding digits
+returns-clause-nothing_checked c = refl
+
+pub returns-clause-not_accepted : goal.returns-clause-not_accepted
+unfolding digits
+returns-clause-not_accepted c = (refl, refl)
