@@ -45,6 +45,19 @@ fn line_of_difference(bytes: &[u8], other: &[u8]) -> u32
     line
 }
 
+// The last line.
+fn last_line(bytes: &[u8]) -> u32
+    requires { length bytes.now ≤ 67108864 }
+{
+    let mut line = 1;
+    for at in 0..bytes.len() {
+        if bytes[at] == b'\n' && at + 1 < bytes.len() {
+            line += 1;
+        }
+    }
+    line
+}
+
 // Whether no byte is one of the letters a to z, which no listing has.
 fn is_folded(bytes: &[u8]) -> bool
     ensures { result ≡ list_all (λ b. not (is_ascii_lowercase b)) bytes.now }
@@ -145,7 +158,7 @@ fn read_folded(alloc: Global, bytes: &[u8]) -> Result<Listing, ListFault>
 {
     let read = claims_in(alloc, bytes)?;
     match listing_of(alloc, read)? {
-        None => Err(ListFault::Form(1)),
+        None => Err(ListFault::Form(last_line(bytes))),
         Some(listing) => printed_again(alloc, bytes, listing),
     }
 }
