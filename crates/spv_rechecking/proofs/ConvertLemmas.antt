@@ -21,7 +21,7 @@ use Rattle.spv_atoms.specs.declared.proofs.Relation.{Relation}
 use Rattle.spv_atoms.specs.declared.proofs.Relation.TheVariants.{AtMost, Equal}
 use Rattle.spv_listing_values.specs.declared.texts.Text.{Text}
 use Rattle.spv_listing_values.specs.Places.{AreBefore, name_at}
-use Rattle.spv_written_terms.specs.Standing.{symbol_for}
+use Rattle.spv_rechecking.specs.written_terms.Standing.{symbol_for}
 use Rattle.spv_listing_values.specs.declared.data.Step as says
 use Rattle.spv_listing_values.specs.Mapped.{step_at}
 use Rattle.spv_listing_values.proofs.Numerals.{both_true}

@@ -14,7 +14,7 @@ use Rattle.spv_listing_values.specs.declared.data.Header.{Header}
 use Rattle.spv_listing_values.specs.declared.data.Claim.{Claim}
 use Rattle.spv_listing_values.specs.Written.{Written}
 use Rattle.spv_listing_values.specs.Mapped.{claim_terms}
-use Rattle.spv_written_terms.specs.Standing.{Vocabulary, stands}
+use Rattle.spv_rechecking.specs.written_terms.Standing.{Vocabulary, stands}
 use Rattle.spv_rechecking.specs.Rechecked.{Recheck, vocabulary, is_about, is_same, is_node, known, nodes_of, Reading, Other, TooMany, Reads, reading, IsChecked, IsVerdictOf}
 use Rattle.spv_rechecking.specs.Asked.{IsChosen, IsJudged, IsFound}
 use Rattle.spv_rechecking.proofs.ReadLemmas.{not_fitting, is_read}

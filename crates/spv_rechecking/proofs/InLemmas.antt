@@ -17,10 +17,10 @@ use Rattle.spv_listing_values.specs.Written.{Written}
 use Rattle.spv_listing_values.specs.Mapped.{claim_terms}
 use Rattle.spv_listing_values.specs.Places.{Flat, trees, flats_of}
 use Rattle.spv_listing_values.specs.Entries.{IsEntry, written_claim}
-use Rattle.spv_written_terms.specs.declared.leaves.Leaves.{Leaves}
-use Rattle.spv_written_terms.specs.Standing.{Vocabulary, is_leaf, stands}
-use Rattle.spv_written_terms.specs.Words as words
-use Rattle.spv_written_terms.specs.Read.{head_read}
+use Rattle.spv_rechecking.specs.declared.written_terms.leaves.Leaves.{Leaves}
+use Rattle.spv_rechecking.specs.written_terms.Standing.{Vocabulary, is_leaf, stands}
+use Rattle.spv_rechecking.specs.written_terms.Words as words
+use Rattle.spv_rechecking.specs.written_terms.Read.{head_read}
 use Rattle.spv_rechecking.specs.Rechecked.{Recheck, leaves, vocabulary, is_about}
 use Rattle.spv_rechecking.specs.Asked.{IsFound}
 use Rattle.spv_rechecking.proofs.ReadLemmas.{leaves_are, about_same, not_standing, too_many, one_fails, all_stand, more_than_all}

@@ -19,11 +19,11 @@ use Rattle.spv_listing_values.specs.Places as places
 use Rattle.spv_listing_values.proofs.Trees.{tree-node}
 use Rattle.spv_search_terms.specs.subterms.Gaining.{Gains, Stops, Remains}
 use Rattle.spv_search_terms.proofs.subterms.GainLemmas.{Remains-all, remains-behind, remains-stops, remains-gained}
-use Rattle.spv_written_terms.specs.declared.leaves.Leaves.{Leaves}
-use Rattle.spv_written_terms.specs.Standing.{Vocabulary, top, may_stand, term_for, stands}
-use Rattle.spv_written_terms.specs.Read.{head_read}
-use Rattle.spv_written_terms.proofs.Lists.{mapped-at}
-use Rattle.spv_written_terms.proofs.Levels.{table_before, so_many_trees}
+use Rattle.spv_rechecking.specs.declared.written_terms.leaves.Leaves.{Leaves}
+use Rattle.spv_rechecking.specs.written_terms.Standing.{Vocabulary, top, may_stand, term_for, stands}
+use Rattle.spv_rechecking.specs.written_terms.Read.{head_read}
+use Rattle.spv_rechecking.proofs.written_terms.Lists.{mapped-at}
+use Rattle.spv_rechecking.proofs.written_terms.Levels.{table_before, so_many_trees}
 use Rattle.spv_rechecking.specs.Rechecked.{term_of}
 use Rattle.spv_rechecking.specs.Made.{vocabulary_in, image_at, images_at, AreHeads, AreImages}
 use Rattle.spv_rechecking.proofs.Standing.{Reads, AllReads, ReadsOver, reads_of, reads_over, reads_first, term_is, stands_as}

@@ -14,7 +14,7 @@ use Rattle.spv_listing_values.specs.Places.{Flat, no_flat, flat_in, IsTable, arg
 use Rattle.spv_listing_values.proofs.Entering.{entering}
 use Rattle.spv_listing_values.proofs.Grown.{is_entered, known_at, length_trees}
 use Rattle.spv_listing_values.proofs.Trees.{tree-node}
-use Rattle.spv_written_terms.specs.Standing.{Vocabulary, stands}
+use Rattle.spv_rechecking.specs.written_terms.Standing.{Vocabulary, stands}
 use Rattle.spv_rechecking.specs.Rechecked.{term_of}
 use Rattle.spv_rechecking.proofs.Standing.{Reads, AllReads, reads_of, reads_over, reads_first, term_is, over_arguments, trees_push}
 

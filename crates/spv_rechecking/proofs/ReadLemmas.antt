@@ -31,9 +31,9 @@ use Rattle.spv_listing_values.specs.Mapped.{node_at, verdict_at, claim_at, claim
 use Rattle.spv_listing_values.specs.Places.{Flat, trees, tree, flats_of}
 use Rattle.spv_listing_values.specs.Entries.{written_claim}
 use Rattle.spv_listing_values.proofs.Numerals.{both_true}
-use Rattle.spv_written_terms.specs.declared.leaves.Leaves.{Leaves}
-use Rattle.spv_written_terms.specs.Standing.{Vocabulary, is_leaf, top, stands}
-use Rattle.spv_written_terms.specs.Read.{head_read}
+use Rattle.spv_rechecking.specs.declared.written_terms.leaves.Leaves.{Leaves}
+use Rattle.spv_rechecking.specs.written_terms.Standing.{Vocabulary, is_leaf, top, stands}
+use Rattle.spv_rechecking.specs.written_terms.Read.{head_read}
 use Rattle.spv_rechecking.specs.Rechecked.{Recheck, leaves, vocabulary, term_of, proof_of, has_node, header_eq, is_about, is_readable, is_same, is_node, known, nodes_of, Reading, Other, TooMany, Reads, reading_by, reading}
 use Rattle.spv_rechecking.specs.Made.{vocabulary_in}
 use Rattle.spv_rechecking.proofs.Standing.{all_named_stand, heads_stand, none_named}

@@ -18,8 +18,8 @@ use Rattle.spv_listing_values.specs.Waiting.{AreIn}
 use Rattle.spv_listing_values.proofs.Entering.{entering}
 use Rattle.spv_listing_values.proofs.Grown.{Grown, IsEntered, AreEntered, is_entered, placed, grown_none, grown_twice, in_more, tree_stays, length_trees}
 use Rattle.spv_listing_values.proofs.Numerals.{both_true}
-use Rattle.spv_written_terms.specs.Standing.{Vocabulary, top, head_for, over, in_front, heads_over, all_heads_over, may_stand, is_term, if_term, term_for, stands}
-use Rattle.spv_written_terms.specs.Read.{head_read}
+use Rattle.spv_rechecking.specs.written_terms.Standing.{Vocabulary, top, head_for, over, in_front, heads_over, all_heads_over, may_stand, is_term, if_term, term_for, stands}
+use Rattle.spv_rechecking.specs.written_terms.Read.{head_read}
 use Rattle.spv_rechecking.specs.Rechecked.{term_of}
 
 -- terms that are entered one behind the other

@@ -20,7 +20,7 @@ use Rattle.spv_listing_values.specs.declared.data.Header.{Header}
 use Rattle.spv_listing_values.specs.declared.data.ProofNode.{ProofNode}
 use Rattle.spv_listing_values.specs.declared.data.Claim.{Claim}
 use Rattle.spv_listing_values.specs.Written.{Written}
-use Rattle.spv_written_terms.specs.Standing.{Vocabulary}
+use Rattle.spv_rechecking.specs.written_terms.Standing.{Vocabulary}
 use Rattle.spv_rechecking.specs.Rechecked.{Recheck, IsChecked, IsVerdictOf, is_same, is_node, nodes_of, reading, vocabulary}
 
 -- an arena has the terms of a condition and no others, and there is room for them, or there is none

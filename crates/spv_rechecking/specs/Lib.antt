@@ -1,3 +1,4 @@
+pub mod written_terms
 pub mod Listed
 pub mod Rechecked
 pub mod Made

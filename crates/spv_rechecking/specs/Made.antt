@@ -7,10 +7,10 @@ use Rattle.spv_term.specs.Arena.{Arena, AllBelow, tree}
 use Rattle.spv_listing_values.specs.declared.texts.Text.{Text}
 use Rattle.spv_listing_values.specs.Written.{Written}
 use Rattle.spv_listing_values.specs.Places.{Flat, trees}
-use Rattle.spv_written_terms.specs.declared.leaves.Leaves.{Leaves}
-use Rattle.spv_written_terms.specs.Standing.{Vocabulary}
-use Rattle.spv_written_terms.specs.Words.{vocabulary}
-use Rattle.spv_written_terms.specs.Read.{head_read}
+use Rattle.spv_rechecking.specs.declared.written_terms.leaves.Leaves.{Leaves}
+use Rattle.spv_rechecking.specs.written_terms.Standing.{Vocabulary}
+use Rattle.spv_rechecking.specs.written_terms.Words.{vocabulary}
+use Rattle.spv_rechecking.specs.written_terms.Read.{head_read}
 use Rattle.spv_rechecking.specs.Rechecked.{term_of}
 
 -- the words of names, titles and leaves, with the types and symbols of an arena

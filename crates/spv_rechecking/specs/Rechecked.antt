@@ -35,7 +35,7 @@ use Rattle.spv_listing_values.specs.declared.data.Verdict.TheVariants as verdict
 use Rattle.spv_listing_values.specs.declared.data.Claim.{Claim}
 use Rattle.spv_listing_values.specs.Written.{Written}
 use Rattle.spv_listing_values.specs.Mapped.{node_at, claim_terms}
-use Rattle.spv_written_terms.specs.Standing.{Vocabulary, is_leaf, top, symbol_for, term_for, stands}
+use Rattle.spv_rechecking.specs.written_terms.Standing.{Vocabulary, is_leaf, top, symbol_for, term_for, stands}
 use Rattle.spv_rechecking.specs.Listed.{listed_nodes}
 
 -- what a recheck is about beside the condition: the names and the first names of types by which terms are read, the rules, and how many

@@ -12,6 +12,7 @@ ghost use Rattle.spv_rechecking.specs.Made.{images_at};
 ghost use Rattle.spv_rechecking.specs.Converted.{relation_over, term_at, IsRelationOf, IsStepOf, IsSplitOf, AreStepsOf, AreNodesOf, IsNodeOf, StepPlaced, StepsPlaced, NodesPlaced};
 
 use crate::making::{id_at, ids_at};
+use crate::written_terms::symbol_for;
 use spv_atoms::{ProofNode, Relation, Split, Stated, Step};
 use spv_frac::Frac;
 use spv_listing_values::data;
@@ -19,7 +20,6 @@ use spv_listing_values::texts::Text;
 use spv_logic::list::List;
 use spv_logic::names::{Names, Symbol};
 use spv_term::{Head, TermId, Terms};
-use spv_written_terms::symbol_for;
 use std::alloc::{AllocError, Global};
 
 // The relation that a head makes of two terms.

@@ -6,5 +6,6 @@ mod converting;
 mod making;
 mod parts;
 mod rechecking;
+pub mod written_terms;
 
 pub use rechecking::recheck;

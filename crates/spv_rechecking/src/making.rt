@@ -8,11 +8,11 @@ ghost use Rattle.spv_listing_values.specs.Places.{AreBefore, IsTable, trees, tre
 ghost use Rattle.spv_rechecking.specs.Rechecked.{term_of};
 ghost use Rattle.spv_rechecking.specs.Made.{vocabulary_in, image_at, images_at, AreHeads, AreImages};
 
+use crate::written_terms::{Leaves, text_at};
 use spv_listing_values::texts::{Text, Texts};
 use spv_logic::names::{Names, Symbol};
 use spv_search_terms::subterms::made;
 use spv_term::{Head, TermFault, TermId, Terms};
-use spv_written_terms::{Leaves, text_at};
 use std::alloc::{AllocError, Global};
 
 /// The id at a place.

@@ -14,7 +14,7 @@ ghost use Rattle.spv_verdicts.specs.declared.answers.verdicts.Limit.TheVariants 
 ghost use Rattle.spv_verdicts.specs.declared.answers.verdicts.Verdict.TheVariants as verdict;
 ghost use Rattle.spv_listing_values.specs.declared.data.Header.{Header};
 ghost use Rattle.spv_listing_values.specs.Places.{AreBefore, trees};
-ghost use Rattle.spv_written_terms.specs.Standing.{is_leaf};
+ghost use Rattle.spv_rechecking.specs.written_terms.Standing.{is_leaf};
 ghost use Rattle.spv_listing_values.specs.Entries.{IsEntry, written_claim};
 ghost use Rattle.spv_rechecking.specs.Rechecked as spec;
 ghost use Rattle.spv_rechecking.specs.Rechecked.{Recheck, IsRechecked};
@@ -26,6 +26,7 @@ use crate::comparing::{same_claim, same_header};
 use crate::converting::nodes_of;
 use crate::making::{id_at, ids_at, make_all};
 use crate::parts::parts_of;
+use crate::written_terms::{Leaves, heads_of, leaves_of};
 use spv_atoms::Proof;
 use spv_listing_values::Entry;
 use spv_listing_values::data::{self, Claim};
@@ -36,7 +37,6 @@ use spv_proof::checker::{CheckStop, check};
 use spv_search_terms::condition_copy::{Copied, copy_condition};
 use spv_term::{Condition, Head, Kind, TermFault, TermId, Terms};
 use spv_verdicts::answers::{Decided, Limit, Verdict, Wide};
-use spv_written_terms::{Leaves, heads_of, leaves_of};
 use std::alloc::{AllocError, Global};
 
 // The nodes of the proof that a listing says, of which there are none where it says no proof.

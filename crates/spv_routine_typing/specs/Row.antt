@@ -12,7 +12,7 @@ use Rattle.spv_environments.specs.declared.routines.Heading.{Heading}
 use Rattle.spv_environments.specs.declared.routines.Specified.{Specified}
 use Rattle.spv_environments.specs.Scopes.{own_of}
 use Rattle.spv_environments.specs.Views.{heading_of, specified_of}
-use Rattle.spv_local_typing.specs.Locals.{local_of}
+use Rattle.spv_routine_typing.specs.local_typing.Locals.{local_of}
 use Rattle.spv_routine_typing.specs.declared.begun.Begun.{Begun}
 
 -- a heading with the names that it gives its routine

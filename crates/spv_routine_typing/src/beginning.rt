@@ -16,10 +16,10 @@ ghost use Rattle.spv_routine_typing.specs.Row.{headed_by, outside_at, progress_a
 use crate::again::{heading_names, is_bare, is_bare_form};
 use crate::begun::Begun;
 use crate::listed::listed;
+use crate::local_typing::locals;
 use crate::numbers::{Bodies, heading_name};
 use spv_environments::{Known, Own, Specified};
 use spv_heading_typing::{Headed, heading};
-use spv_local_typing::locals;
 use spv_logic::names::Symbol;
 use spv_program::ordered_map::Named;
 use spv_tree::syntax::{Clauses, Heading, Locals};

@@ -1,7 +1,7 @@
 // Routines whose bodies have begun.
 
+use crate::local_typing::Local;
 use spv_environments::Specified;
-use spv_local_typing::Local;
 use spv_logic::names::Symbol;
 
 /// A routine whose body has begun and has not ended.

@@ -6,6 +6,7 @@ mod beginning;
 mod begun;
 mod ending;
 mod listed;
+pub mod local_typing;
 mod numbers;
 mod row;
 

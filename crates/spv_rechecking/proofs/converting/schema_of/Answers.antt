@@ -1,5 +1,5 @@
 use Rattle.std.proofs.Common.{ap, ◌∙◌}
-use Rattle.spv_written_terms.specs.Standing.{symbol_for}
+use Rattle.spv_rechecking.specs.written_terms.Standing.{symbol_for}
 use Rattle.spv_rechecking.proofs.ConvertLemmas.{schema_known}
 use Rattle.spv_rechecking.proofs.converting.schema_of.Goals as goal
 

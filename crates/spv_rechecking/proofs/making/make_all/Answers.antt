@@ -3,7 +3,7 @@ use Rattle.std.specs.Prelude.{Err}
 use Rattle.spv_term.specs.declared.nodes.TermFault.TheVariants.{Size}
 use Rattle.spv_listing_values.specs.Places.{trees}
 use Rattle.spv_search_terms.proofs.condition_copy.Exits.{same_fault}
-use Rattle.spv_written_terms.proofs.Levels.{so_many_trees}
+use Rattle.spv_rechecking.proofs.written_terms.Levels.{so_many_trees}
 use Rattle.spv_rechecking.proofs.MakeLemmas.{begins, heads_now, count_now, images_now, inside_now, more_now, stops_now, all_gained, all_images}
 use Rattle.spv_rechecking.proofs.making.make_all.Goals as goal
 

@@ -1,7 +1,7 @@
 use Rattle.std.proofs.Common.{refl}
 use Rattle.spv_heading_typing.proofs.Bridges.{if_stopped}
 use Rattle.spv_formula_typing.proofs.Exits.{stops_after}
-use Rattle.spv_local_typing.specs.Locals.{local_of}
+use Rattle.spv_routine_typing.specs.local_typing.Locals.{local_of}
 use Rattle.spv_routine_typing.specs.Row.{headed_by}
 use Rattle.spv_routine_typing.proofs.Steps.{begun_with}
 use Rattle.spv_routine_typing.proofs.beginning.begin_body.Goals as goal

@@ -1,8 +1,0 @@
-//! Local declarations of routines.
-#![tactic(auto)]
-
-mod declaring;
-mod places;
-
-pub use declaring::locals;
-pub use places::Local;
