@@ -24,6 +24,8 @@ use Rattle.spv_verdicts.specs.declared.answers.verdicts.Verdict as answers
 use Rattle.spv_verdicts.specs.answers.Views.{verdict_in}
 use Rattle.spv_assign.specs.Conditions.{conditions_of}
 use Rattle.spv_reports.specs.declared.report.ProgramNames.{ProgramNames}
+use Rattle.spv_reports.specs.Headings.{routine_text, header_of}
+use Rattle.spv_rechecking.specs.written_terms.Printing.{written_of}
 use Rattle.spv_reports.specs.Reports.{Findings}
 use Rattle.spv_listing_values.specs.declared.data.Claim.{Claim}
 use Rattle.spv_listing_values.specs.Written.{Written, line_bytes}
@@ -36,8 +38,8 @@ use Rattle.spv_listing.specs.printed.Printed.{line, fraction_text, term_text}
 use Rattle.spv_listing.specs.verdict_pages.ProofLines.{blank_term}
 use Rattle.spv_listing.specs.verdict_pages.VerdictLines.{branch_line, value_line, instance_line, member_count, operation_text, limit_text, with_truth, wanted_proof, verdict_lines, decided_lines}
 use Rattle.spv_listing.specs.verdict_pages.Totals.{proves, falsifies, gives_up, is_proved, is_unproved, is_given_up, counts_line, result_text, total_lines}
-use Rattle.spv_listing.specs.Page.{kind_word, routine_text, heading, given_line, goal_line, condition_lines, blocks, verdicts_page}
-use Rattle.spv_listing.specs.Listings.{Writing, written_of, nodes_of, branch_of, value_of, instance_of, limit_of, verdict_of, header_of, writing, claim_of, claims_of, listing_in, IsListedLimit, IsListedVerdict, AreListed}
+use Rattle.spv_listing.specs.Page.{kind_word, heading, given_line, goal_line, condition_lines, blocks, verdicts_page}
+use Rattle.spv_listing.specs.Listings.{Writing, nodes_of, branch_of, value_of, instance_of, limit_of, verdict_of, writing, claim_of, claims_of, listing_in, IsListedLimit, IsListedVerdict, AreListed}
 use Rattle.spv_listing.proofs.WrittenProofs.{line_written, number_written, one_written, terms_written, blank_written, proof_written}
 
 two_texts : (a b : List ℕ) → a ++ codes " " ++ b ≡ a ++ (32 ∷ (b ++ []))

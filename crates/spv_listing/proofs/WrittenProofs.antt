@@ -22,7 +22,8 @@ use Rattle.spv_listing_values.specs.Page as pages
 use Rattle.spv_listing_values.proofs.Blanks.{line_is}
 use Rattle.spv_listing.specs.printed.Printed.{line, name_in, fraction_text}
 use Rattle.spv_listing.specs.verdict_pages.ProofLines.{number_text, numbers_text, blank_term, multiple_text, multiples_text, field_text, second_number, relation_at, stated_at, other_multiples, step_text, step_line, split_line, node_lines, case_line, numbers, case_numbers, cases_lines, proof_lines}
-use Rattle.spv_listing.specs.Listings.{written_of, second_multiples, step_of, split_of, node_of}
+use Rattle.spv_listing.specs.Listings.{second_multiples, step_of, split_of, node_of}
+use Rattle.spv_rechecking.specs.written_terms.Printing.{written_of}
 use Rattle.spv_listing.proofs.WrittenTerms.{term_written}
 
 -- ---- lines

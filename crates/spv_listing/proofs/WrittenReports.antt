@@ -15,7 +15,7 @@ use Rattle.spv_rounds.specs.Rounds.{members_of}
 use Rattle.spv_rounds.specs.Right.{IsReachedUnder, IsRightUnder, IsDecidedUnder}
 use Rattle.spv_reports.specs.Reports.{Findings, AreVerdicts, AreVerdictsIn}
 use Rattle.spv_reports.specs.declared.mode.Mode.{Mode}
-use Rattle.spv_reports.specs.declared.mode.Mode.TheVariants.{Verify, Simplify, Conditions, Drill}
+use Rattle.spv_reports.specs.declared.mode.Mode.TheVariants.{Verify, Simplify, Check, Conditions, Drill}
 use Rattle.spv_rules.specs.RuleSets.{rules_in}
 use Rattle.spv_listing.specs.Page.{page_in}
 use Rattle.spv_listing.specs.Listings.{IsListedLimit, IsListedVerdict, AreListed, PagesAreListings, tells_verdicts, listing_in}
@@ -64,9 +64,10 @@ all_listed rules a limits [] (d ∷ ds) are = absurd are
 all_listed rules a limits (c ∷ cs) [] are = absurd are
 all_listed rules a limits (c ∷ cs) (d ∷ ds) are = (decided_listed rules a c limits d are.0, all_listed rules a limits cs ds are.1)
 
-page_at : (mode : Mode) (r : Findings) → AreVerdictsIn mode (rules_in r.rules) r.arena r.conditions r.verdicts → tells_verdicts mode ≡ true → page_in mode r ≡ listings.page (listing_in r)
+page_at : (mode : Mode) (r : Findings) → AreVerdictsIn mode r.listing (rules_in r.rules) r.named r.arena r.conditions r.verdicts → tells_verdicts mode ≡ true → page_in mode r ≡ listings.page (listing_in r)
 page_at (Verify limits) r are tells = page_written r (all_listed (rules_in r.rules) r.arena limits r.conditions r.verdicts are)
 page_at (Simplify limits) r are tells = page_written r (all_listed (rules_in r.rules) r.arena limits r.conditions r.verdicts are)
+page_at Check r are tells = absurd (false≢true tells)
 page_at Conditions r are tells = absurd (false≢true tells)
 page_at (Drill load limits) r are tells = absurd (false≢true tells)
 

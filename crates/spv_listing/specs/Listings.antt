@@ -23,9 +23,11 @@ use Rattle.spv_verdicts.specs.Verdicts as verdicts
 use Rattle.spv_verdicts.specs.declared.answers.verdicts.Decided.{Decided}
 use Rattle.spv_verdicts.specs.answers.Views.{verdict_in}
 use Rattle.spv_reports.specs.declared.report.ProgramNames.{ProgramNames}
+use Rattle.spv_reports.specs.Headings.{header_of}
+use Rattle.spv_rechecking.specs.written_terms.Printing.{written_of}
 use Rattle.spv_reports.specs.Reports.{Findings, IsReport}
 use Rattle.spv_reports.specs.declared.mode.Mode.{Mode}
-use Rattle.spv_reports.specs.declared.mode.Mode.TheVariants.{Verify, Simplify, Conditions, Drill}
+use Rattle.spv_reports.specs.declared.mode.Mode.TheVariants.{Verify, Simplify, Check, Conditions, Drill}
 use Rattle.spv_listing_values.specs.Written.{Alone, Applied, Written, Writtens, written, no_written, writtens}
 use Rattle.spv_listing_values.specs.Written as listed
 use Rattle.spv_listing_values.specs.Page as listings
@@ -43,36 +45,7 @@ use Rattle.spv_listing_values.specs.declared.data.Claim.{Claim}
 use Rattle.spv_listing.specs.printed.Printed.{name_in, title_in, word, head_text, stands_alone}
 use Rattle.spv_listing.specs.verdict_pages.ProofLines.{relation_at, stated_at}
 use Rattle.spv_listing.specs.verdict_pages.VerdictLines.{with_truth, member_count}
-use Rattle.spv_listing.specs.Page.{routine_text, page}
-
--- ---- terms
-
--- the word of a head that is applied
-abbrev pub applied_word : List (List ℕ) → Head → List ℕ
-applied_word names (App f) = name_in names f
-applied_word names (Field f) = codes "FIELD"
-applied_word names (Put f) = codes "PUT"
-applied_word names (Nil t) = codes "NIL"
-applied_word names h = word h
-
--- the name behind it, where one belongs to it
-abbrev pub applied_name : List (List ℕ) → List (Option Symbol) → Head → Option (List ℕ)
-applied_name names titles (Field f) = Some (name_in names f)
-applied_name names titles (Put f) = Some (name_in names f)
-applied_name names titles (Nil t) = Some (title_in names titles t)
-applied_name names titles h = None
-
-abbrev pub head_of : List (List ℕ) → List (Option Symbol) → Head → listed.Head
-head_of names titles h = if stands_alone h then Alone (head_text names titles h) else Applied (applied_word names h) (applied_name names titles h)
-
-abbrev mutual
-  -- a term as it is written
-  pub written_of : List (List ℕ) → List (Option Symbol) → Term → Written
-  written_of names titles (term h ts) = written (head_of names titles h) (writtens_of names titles ts)
-
-  pub writtens_of : List (List ℕ) → List (Option Symbol) → Terms → Writtens
-  writtens_of names titles no_terms = no_written
-  writtens_of names titles (terms t ts) = writtens (written_of names titles t) (writtens_of names titles ts)
+use Rattle.spv_listing.specs.Page.{page}
 
 -- the terms of a program's names, as they are written
 abbrev pub Writing : Type 0
@@ -139,9 +112,6 @@ verdict_of proofs names w at verdicts.NotAccepted = listed_verdict.Unproved [] [
 
 -- ---- conditions
 
-abbrev pub header_of : ProgramNames → Origin → Header
-header_of named o = record { routine = routine_text named o.routine; kind = o.kind; line = o.line }
-
 abbrev pub writing : ProgramNames → Writing
 writing named = written_of named.names named.titles
 
@@ -187,6 +157,7 @@ AreListed _ _ = ⊥
 abbrev pub tells_verdicts : Mode → Bool
 tells_verdicts (Verify limits) = true
 tells_verdicts (Simplify limits) = true
+tells_verdicts Check = false
 tells_verdicts Conditions = false
 tells_verdicts (Drill load limits) = false
 
