@@ -107,13 +107,24 @@ failing (Some s) h = h
 found_source : (o : Reading) (c : Command) (texts : List (List ℕ)) (f : Found) → AreReadWhole o c.files → AreTextsOf o.told c.files texts → IsAskedFound c texts f → IsFound o c f
 found_source o c texts (ReadFailed other) read are found = absurd (failing (sources_in c.mode texts) found)
 found_source o c texts (Refusing other r) read are found =
-    let h = refusing c other.now r (sources_in c.mode texts) found in
-    (read, (h.0, h.1, if_told (λ s. IsRefused (kind_of c.mode) s.text s.rules s.listing h.0 r) (λ s k. refused_whole (kind_of c.mode) s.text s.rules s.listing h.0 r k)
-    c.mode (told_of o.told c.files) texts (texts_read o.told c.files texts are) h.2))
+    let h = refusing c other.now r (sources_in c.mode texts) found in (
+      read,
+      (
+        h.0,
+        h.1,
+        if_told (λ s. IsRefused (kind_of c.mode) s.text s.rules s.listing h.0 r) (λ s k. refused_whole (kind_of c.mode) s.text s.rules s.listing h.0 r k)
+            c.mode (told_of o.told c.files) texts (texts_read o.told c.files texts are) h.2,
+      ),
+    )
 found_source o c texts (Reporting r) read are found =
-    let h = reporting c r (sources_in c.mode texts) found in
-    (read, h.0, h.1, h.2, if_told (λ s. IsReportOf (kind_of c.mode) s.text s.rules s.listing r) (λ s k. report_whole (kind_of c.mode) s.text s.rules s.listing r k)
-    c.mode (told_of o.told c.files) texts (texts_read o.told c.files texts are) h.3)
+    let h = reporting c r (sources_in c.mode texts) found in (
+      read,
+      h.0,
+      h.1,
+      h.2,
+      if_told (λ s. IsReportOf (kind_of c.mode) s.text s.rules s.listing r) (λ s k. report_whole (kind_of c.mode) s.text s.rules s.listing r k)
+          c.mode (told_of o.told c.files) texts (texts_read o.told c.files texts are) h.3,
+    )
 
 -- what is found of the sources of a command is found of its texts
 pub asked_found : (c : Command) (texts : List (List ℕ)) (s : Sources) (result : Result Found AllocError) → sources_in c.mode texts ≡ Some s → IfOk result (IsTextFound c s) → IfOk result (IsAskedFound c texts)

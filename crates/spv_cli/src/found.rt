@@ -148,7 +148,13 @@ fn look_at<'a>(
         }
         Mode::Check => {
             let rules = text_after(read, 2);
-            look(alloc, command, text_at(read, 0), rules, Some(text_at(read, 1)))
+            look(
+                alloc,
+                command,
+                text_at(read, 0),
+                rules,
+                Some(text_at(read, 1)),
+            )
         }
         Mode::Verify(_) => look(alloc, command, text_at(read, 0), text_after(read, 1), None),
         Mode::Simplify(_) => look(alloc, command, text_at(read, 0), text_after(read, 1), None),

@@ -78,7 +78,12 @@ fn checked(alloc: Global, report: &Report) -> Result<Vec<u8>, AllocError>
     if are_lines_too_long(alloc, report)? {
         return Err(AllocError);
     }
-    checked_page(alloc, report.named(), report.conditions(), report.verdicts())
+    checked_page(
+        alloc,
+        report.named(),
+        report.conditions(),
+        report.verdicts(),
+    )
 }
 
 // The page of conditions with their verdicts.

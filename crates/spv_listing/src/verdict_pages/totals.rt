@@ -113,12 +113,7 @@ fn push_counts(
 }
 
 // The line of the result: this word where some verdict fails.
-fn push_result(
-    out: &mut Vec<u8>,
-    word: &[u8],
-    failed: u64,
-    given_up: u64,
-) -> Result<(), AllocError>
+fn push_result(out: &mut Vec<u8>, word: &[u8], failed: u64, given_up: u64) -> Result<(), AllocError>
     ensures { OnOk result (out.new.items ≡ out.old.items ++ line (result_text word.now failed given_up)) }
 {
     if failed > 0 {

@@ -52,10 +52,9 @@ rechecked_more rules named a entries (b ∷ cs) (suc k) [] c d h is right checke
 rechecked_more rules named a entries (b ∷ cs) (suc k) (e ∷ ds) c d h is right checked = (
   right.0,
   rechecked_more rules named a (drop 1 entries) cs k ds c d (omega (arith, h)) is right.1
-  (subst (λ (o : Option (Claim Written)). IsRechecked (recheck_of rules named) (header_of named c.origin) a c o d) (behind entries k) checked),
+      (subst (λ (o : Option (Claim Written)). IsRechecked (recheck_of rules named) (header_of named c.origin) a c o d) (behind entries k) checked),
 )
   where
     behind : (es : List (Claim Written)) (n : ℕ) → slice_get es (suc n) ≡ slice_get (drop 1 es) n
     behind [] n = refl
     behind (x ∷ es) n = refl
-

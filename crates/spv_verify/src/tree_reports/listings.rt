@@ -31,10 +31,7 @@ fn bytes_listing(alloc: Global, bytes: &[u8]) -> Result<Listing, TextFault>
 }
 
 /// The listing that is handed in, where one is, or what it is refused for.
-pub(crate) fn listing_for(
-    alloc: Global,
-    bytes: Option<&[u8]>,
-) -> Result<Option<Listing>, TextFault>
+pub(crate) fn listing_for(alloc: Global, bytes: Option<&[u8]>) -> Result<Option<Listing>, TextFault>
     ensures listing { IfOk result (IsListed (option_copied bytes.entry)) }
     ensures cause { IfErr result (IsListingCause (option_copied bytes.entry)) }
 {
