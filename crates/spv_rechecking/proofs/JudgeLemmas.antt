@@ -8,7 +8,8 @@ use Rattle.spv_logic.specs.Conditions.{Sequent}
 use Rattle.spv_term.specs.declared.nodes.Condition.{Condition}
 use Rattle.spv_term.specs.Arena.{Arena, AllBelow, Extends, sequent, tree, trees_of}
 use Rattle.spv_atoms.specs.declared.proofs.ProofNode.{ProofNode}
-use Rattle.spv_proof_rules.specs.Stand.{NodesIn, question}
+use Rattle.spv_proof_rules.specs.Rules.{Rule}
+use Rattle.spv_proof_rules.specs.Stand.{NodesIn, question_under}
 use Rattle.spv_proof_rules.specs.Outcomes.{Ending, Comes, outcome}
 use Rattle.spv_proof.specs.declared.checker.stops.CheckStop.{CheckStop}
 use Rattle.spv_proof.specs.declared.checker.stops.CheckStop.TheVariants as stop
@@ -22,12 +23,12 @@ use Rattle.spv_rechecking.specs.Rechecked.{Recheck, verdict_by, question_over, I
 use Rattle.spv_rechecking.specs.Listed.{listed_nodes}
 use Rattle.spv_rechecking.specs.Asked.{verdict_after}
 
-module _ (first last : Arena) (c : Condition) (nodes : List ProofNode) where
+module _ (rules : List Rule) (first last : Arena) (c : Condition) (nodes : List ProofNode) where
   -- the verdict, as trees have it, is that of the outcome
   pub by_answer : (answer : Result Bool CheckStop) (v : Verdict) → Some v ≡ verdict_after first.most nodes answer
-      → IfOk answer (λ b. outcome first.most (question first c) (trees_of first.nodes) nodes ≡ comes_in last b)
-      → IfErr answer (λ e. EndsAs last e (outcome first.most (question first c) (trees_of first.nodes) nodes))
-      → verdict_in last v ≡ verdict_by first.most nodes (outcome first.most (question first c) (trees_of first.nodes) nodes).ending
+      → IfOk answer (λ b. outcome first.most (question_under rules first c) (trees_of first.nodes) nodes ≡ comes_in last b)
+      → IfErr answer (λ e. EndsAs last e (outcome first.most (question_under rules first c) (trees_of first.nodes) nodes))
+      → verdict_in last v ≡ verdict_by first.most nodes (outcome first.most (question_under rules first c) (trees_of first.nodes) nodes).ending
   by_answer (Ok true) v is came stops = let same : v ≡ verdict.Proved nodes = cc in ap (verdict_in last) same ∙ ap (λ o. verdict_by first.most nodes o.ending) (sym came)
   by_answer (Ok false) v is came stops = let same : v ≡ verdict.NotAccepted = cc in ap (verdict_in last) same ∙ ap (λ o. verdict_by first.most nodes o.ending) (sym came)
   by_answer (Err (stop.Wide op x y)) v is came stops = ap (verdict_in last) (some_same v _ is) ∙ ap (λ o. verdict_by first.most nodes o.ending) (sym stops.told)
@@ -45,10 +46,10 @@ module _ (first last : Arena) (c : Condition) (nodes : List ProofNode) where
   by_answer (Err stop.Memory) v is came stops = absurd cc
 
 -- what the check of nodes comes to that a listing says so
-pub is_checked : (names : List (List ℕ)) (titles : List (Option Symbol)) (first last : Arena) (c : Condition) (nodes : List ProofNode) (said : List (said_node.ProofNode Term)) (v : Verdict) → Extends first last → NodesIn first nodes → listed_nodes names (tree first) nodes ≡ said
-    → verdict_in last v ≡ verdict_by first.most nodes (outcome first.most (question first c) (trees_of first.nodes) nodes).ending
-    → IsChecked (record { names = names; titles = titles; rules = []; most = first.most }) (sequent first c) (trees_of first.nodes) said last (verdict_in last v)
-is_checked names titles first last c nodes said v grows inside are is = record {
+pub is_checked : (names : List (List ℕ)) (titles : List (Option Symbol)) (rules : List Rule) (first last : Arena) (c : Condition) (nodes : List ProofNode) (said : List (said_node.ProofNode Term)) (v : Verdict) → Extends first last → NodesIn first nodes → listed_nodes names (tree first) nodes ≡ said
+    → verdict_in last v ≡ verdict_by first.most nodes (outcome first.most (question_under rules first c) (trees_of first.nodes) nodes).ending
+    → IsChecked (record { names = names; titles = titles; rules = rules; most = first.most }) (sequent first c) (trees_of first.nodes) said last (verdict_in last v)
+is_checked names titles rules first last c nodes said v grows inside are is = record {
   first = first;
   terms_are = refl;
   grows = grows;

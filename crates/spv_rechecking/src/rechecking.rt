@@ -7,6 +7,7 @@ ghost use Rattle.spv_models.specs.leaf_models.Laws.{AreFormulas};
 ghost use Rattle.spv_models.specs.leaf_models.Tables.{formulas_of};
 ghost use Rattle.spv_proof_rules.specs.Stand.{question};
 ghost use Rattle.spv_verdicts.specs.Verdicts.{most_terms};
+ghost use Rattle.spv_rules.specs.RuleSets.{rules_in};
 ghost use Rattle.std.specs.List.{filter};
 ghost use Rattle.spv_proof.specs.checker.Ends.{ConditionIn};
 ghost use Rattle.spv_search_terms.specs.condition_copy.Copies.{IsCopy, all_terms};
@@ -33,7 +34,8 @@ use spv_listing_values::data::{self, Claim};
 use spv_listing_values::texts::{Text, Texts};
 use spv_logic::list::List;
 use spv_logic::names::{Names, Symbol};
-use spv_proof::checker::{CheckStop, check};
+use spv_proof::checker::{CheckStop, check_under};
+use spv_rules::Rules;
 use spv_search_terms::condition_copy::{Copied, copy_condition};
 use spv_term::{Condition, Head, Kind, TermFault, TermId, Terms};
 use spv_verdicts::answers::{Decided, Limit, Verdict, Wide};
@@ -134,15 +136,18 @@ fn check_with(
     condition: &Condition,
     names: &Names,
     titles: &[Option<Symbol>],
+    rules: &Rules,
     leaves: &Leaves,
     texts: &Texts,
     claim: &Claim<Text>,
     images: &[TermId],
 ) -> Result<Verdict, AllocError>
     requires condition { ConditionIn terms.old condition.now }
+    requires shapes { rules.now.arena.shapes ≡ terms.old.shapes }
+    requires decls { rules.now.arena.decls ≡ terms.old.decls }
     requires entry { IsEntry texts.now claim.now }
     requires images { AreImages (vocabulary_in names.now titles.now leaves.now terms.old) terms.old (trees texts.now) images.now }
-    ensures judged { IfOk result (IsJudged (record { names = names.now; titles = titles.now; rules = []; most = terms.old.most })
+    ensures judged { IfOk result (IsJudged (record { names = names.now; titles = titles.now; rules = rules_in rules.now; most = terms.old.most })
         (vocabulary_in names.now titles.now leaves.now terms.old) terms.old condition.now (written_claim texts.now claim.now) terms.new) }
     ensures grows { OnOk result (Extends terms.old terms.new) }
 {
@@ -160,7 +165,7 @@ fn check_with(
     };
     let proof = Proof::new(nodes);
     let most = terms.most();
-    let outcome = check(alloc, terms, condition, &proof);
+    let outcome = check_under(alloc, terms, condition, rules, &proof);
     verdict_of(alloc, most, proof, outcome)
 }
 
@@ -171,19 +176,22 @@ fn make_and_check(
     condition: &Condition,
     names: &Names,
     titles: &[Option<Symbol>],
+    rules: &Rules,
     leaves: &Leaves,
     texts: &Texts,
     claim: &Claim<Text>,
     heads: &[Head],
 ) -> Result<Verdict, AllocError>
     requires condition { ConditionIn terms.old condition.now }
+    requires shapes { rules.now.arena.shapes ≡ terms.old.shapes }
+    requires decls { rules.now.arena.decls ≡ terms.old.decls }
     requires terms { trees_of terms.old.nodes ≡ all_terms (sequent terms.old condition.now) }
     requires entry { IsEntry texts.now claim.now }
     requires proof { spec.has_node (spec.proof_of claim.now.verdict) ≡ true }
     requires leaves { leaves.now.heads.items ≡ filter is_leaf (map (λ n. n.head) terms.old.nodes) }
     requires heads { AreHeads (vocabulary_in names.now titles.now leaves.now terms.old) (trees texts.now) heads.now }
     ensures found { IfOk result (λ v. (header : Header) → spec.header_eq claim.now.header header ≡ true
-        → IsFound (record { names = names.now; titles = titles.now; rules = []; most = terms.old.most }) header terms.old condition.now (Some (written_claim texts.now claim.now)) terms.new v) }
+        → IsFound (record { names = names.now; titles = titles.now; rules = rules_in rules.now; most = terms.old.most }) header terms.old condition.now (Some (written_claim texts.now claim.now)) terms.new v) }
     ensures grows { OnOk result (Extends terms.old terms.new) }
 {
     match make_all(alloc, names, titles, leaves, texts, heads, terms) {
@@ -193,6 +201,7 @@ fn make_and_check(
             condition,
             names,
             titles,
+            rules,
             leaves,
             texts,
             claim,
@@ -213,11 +222,14 @@ fn recheck_in(
     routine: &[u8],
     most: u32,
     room: bool,
+    rules: &Rules,
     entry: &Entry,
 ) -> Result<Verdict, AllocError>
     requires asked { IsAsked most room terms.old condition.now }
+    requires shapes { rules.now.arena.shapes ≡ terms.old.shapes }
+    requires decls { rules.now.arena.decls ≡ terms.old.decls }
     requires few { length titles.now ≤ 2 ^ 32 }
-    ensures found { IfOk result (IsFound (record { names = names.now; titles = titles.now; rules = []; most = most })
+    ensures found { IfOk result (IsFound (record { names = names.now; titles = titles.now; rules = rules_in rules.now; most = most })
         (record { routine = routine.now; kind = condition.now.origin.kind; line = condition.now.origin.line }) terms.old condition.now (Some entry.now) terms.new) }
     ensures grows { OnOk result (Extends terms.old terms.new) }
 {
@@ -247,6 +259,7 @@ fn recheck_in(
         condition,
         names,
         titles,
+        rules,
         &leaves,
         texts,
         claim,
@@ -265,12 +278,15 @@ fn decided(
     routine: &[u8],
     most: u32,
     room: bool,
+    rules: &Rules,
     entry: Option<&Entry>,
 ) -> Result<Decided, AllocError>
     requires copied { IsCopy from.now whole.now copied.terms.most copied }
     requires asked { IsAsked most room copied.terms copied.condition }
+    requires shapes { rules.now.arena.shapes ≡ copied.terms.shapes }
+    requires decls { rules.now.arena.decls ≡ copied.terms.decls }
     requires few { length titles.now ≤ 2 ^ 32 }
-    ensures { IfOk result (IsRechecked (record { names = names.now; titles = titles.now; rules = []; most = most })
+    ensures { IfOk result (IsRechecked (record { names = names.now; titles = titles.now; rules = rules_in rules.now; most = most })
         (record { routine = routine.now; kind = whole.now.origin.kind; line = whole.now.origin.line }) from.now whole.now (option_copied entry.entry)) }
 {
     let _ = from;
@@ -283,7 +299,7 @@ fn decided(
     match entry {
         Some(entry) => {
             let verdict = recheck_in(
-                alloc, &mut terms, &condition, names, titles, routine, most, room, entry,
+                alloc, &mut terms, &condition, names, titles, routine, most, room, rules, entry,
             )?;
             Ok(Decided {
                 terms,
@@ -308,22 +324,25 @@ fn recheck_within(
     titles: &[Option<Symbol>],
     routine: &[u8],
     most: u32,
+    rules: &Rules,
     entry: Option<&Entry>,
 ) -> Result<Decided, AllocError>
     requires given { AllBelow (length terms.now.nodes) condition.now.given }
     requires goal { condition.now.goal.0 < length terms.now.nodes }
     requires formulas { AreFormulas terms.now.shapes terms.now.decls (formulas_of (question terms.now condition.now).sequent) }
+    requires shapes { rules.now.arena.shapes ≡ terms.now.shapes }
+    requires decls { rules.now.arena.decls ≡ terms.now.decls }
     requires few { length titles.now ≤ 2 ^ 32 }
-    ensures { IfOk result (IsRechecked (record { names = names.now; titles = titles.now; rules = []; most = most })
+    ensures { IfOk result (IsRechecked (record { names = names.now; titles = titles.now; rules = rules_in rules.now; most = most })
         (record { routine = routine.now; kind = condition.now.origin.kind; line = condition.now.origin.line }) terms.now condition.now (option_copied entry.entry)) }
 {
     match copy_condition(alloc, terms, condition, most) {
         Ok(copied) => decided(
-            alloc, terms, condition, copied, names, titles, routine, most, true, entry,
+            alloc, terms, condition, copied, names, titles, routine, most, true, rules, entry,
         ),
         Err(TermFault::Size) => match copy_condition(alloc, terms, condition, u32::MAX) {
             Ok(copied) => decided(
-                alloc, terms, condition, copied, names, titles, routine, most, false, entry,
+                alloc, terms, condition, copied, names, titles, routine, most, false, rules, entry,
             ),
             Err(_) => Err(AllocError),
         },
@@ -331,8 +350,8 @@ fn recheck_within(
     }
 }
 
-/// Checks the proof of a condition that a listing says, where it says one; the condition's routine is written so. The answer has the
-/// condition in an arena of its own, in which it claims the same, and what the check comes to.
+/// Checks the proof of a condition that a listing says, where it says one, under rules; the condition's routine is written so. The
+/// answer has the condition in an arena of its own, in which it claims the same, and what the check comes to.
 pub fn recheck(
     alloc: Global,
     terms: &Terms,
@@ -340,18 +359,21 @@ pub fn recheck(
     names: &Names,
     titles: &[Option<Symbol>],
     routine: &[u8],
+    rules: &Rules,
     entry: Option<&Entry>,
 ) -> Result<Decided, AllocError>
     requires given { AllBelow (length terms.now.nodes) condition.now.given }
     requires goal { condition.now.goal.0 < length terms.now.nodes }
     requires formulas { AreFormulas terms.now.shapes terms.now.decls (formulas_of (question terms.now condition.now).sequent) }
-    ensures rechecked { IfOk result (IsRechecked (record { names = names.now; titles = titles.now; rules = []; most = most_terms })
+    requires shapes { rules.now.arena.shapes ≡ terms.now.shapes }
+    requires decls { rules.now.arena.decls ≡ terms.now.decls }
+    ensures rechecked { IfOk result (IsRechecked (record { names = names.now; titles = titles.now; rules = rules_in rules.now; most = most_terms })
         (record { routine = routine.now; kind = condition.now.origin.kind; line = condition.now.origin.line }) terms.now condition.now (option_copied entry.entry)) }
 {
     if titles.len() > 4294967296 {
         return Err(AllocError);
     }
     recheck_within(
-        alloc, terms, condition, names, titles, routine, 1_000_000, entry,
+        alloc, terms, condition, names, titles, routine, 1_000_000, rules, entry,
     )
 }
