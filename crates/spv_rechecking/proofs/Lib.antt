@@ -11,3 +11,4 @@ pub mod PartsLemmas
 pub mod FoundLemmas
 pub mod NodeLemmas
 pub mod InLemmas
+pub mod CopyLemmas
