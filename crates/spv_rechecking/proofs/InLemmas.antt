@@ -72,7 +72,7 @@ module _ (r : Recheck) (header : Header) (a : Arena) (c : Condition) (terms_are 
 
 -- what was read of an option is what the option has
 pub heads_absent : {A : Type 0} (f : A → List Head) (w : Vocabulary) (ws : List Written) (o : Option A) → HeadsAre w ws (option_map f o) → o ≡ None → list_all (stands w) ws ≡ false
-heads_absent f w ws o h is = subst (λ (p : Option A). HeadsAre w ws (option_map f p)) is h
+heads_absent {A = A} f w ws o h is = subst (λ (p : Option A). HeadsAre w ws (option_map f p)) is h
 
 pub heads_present : {A : Type 0} (f : A → List Head) (w : Vocabulary) (ws : List Written) (o : Option A) (x : A) → HeadsAre w ws (option_map f o) → o ≡ Some x → map (head_read w) ws ≡ map Some (f x)
-heads_present f w ws o x h is = subst (λ (p : Option A). HeadsAre w ws (option_map f p)) is h
+heads_present {A = A} f w ws o x h is = subst (λ (p : Option A). HeadsAre w ws (option_map f p)) is h
