@@ -10,4 +10,9 @@ pub mod JudgeLemmas
 pub mod PartsLemmas
 pub mod FoundLemmas
 pub mod NodeLemmas
+pub mod AllNodes
+pub mod EntryLemmas
+pub mod ImageLemmas
+pub mod Judged
+pub mod MadeLemmas
 pub mod InLemmas
