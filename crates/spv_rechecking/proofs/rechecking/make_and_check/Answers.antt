@@ -1,8 +1,10 @@
-use Rattle.std.proofs.Common.{refl, sym, ap, subst, ◌∙◌}
+use Rattle.std.proofs.Common.{Err, [], sym, ap, ◌∙◌}
 use Rattle.spv_term.proofs.ArenaLemmas.{Extends-trans}
 use Rattle.spv_listing_values.specs.Places.{trees}
 use Rattle.spv_rules.specs.RuleSets.{rules_in}
 use Rattle.spv_search_terms.proofs.condition_copy.Exits.{if_ok, on_ok}
+use Rattle.spv_verdicts.specs.declared.answers.verdicts.Limit.TheVariants as limit
+use Rattle.spv_verdicts.specs.declared.answers.verdicts.Verdict.TheVariants as verdict
 use Rattle.spv_proof.proofs.checker.Staying.{condition-Extends}
 use Rattle.spv_rechecking.proofs.MadeLemmas.{images_stay, found_stops, found_made}
 use Rattle.spv_rechecking.proofs.rechecking.make_and_check.Goals as goal
@@ -35,4 +37,5 @@ pub returns-in-Err-Size-clause-found : goal.returns-in-Err-Size-clause-found
 returns-in-Err-Size-clause-found c =
     λ header same.
     found_stops c.args.names.now c.args.titles.now (rules_in c.args.rules.now) c.args.leaves.now c.args.terms.now c.args.condition.now c.requires.condition c.requires.terms c.requires.leaves c.args.texts.now c.args.claim.now c.requires.entry
-    c.requires.proof c.args.heads.now c.requires.heads header same (c.make_all.ensures.size ?) c.make_all.new.terms c.too_many.result ?
+    c.requires.proof c.args.heads.now c.requires.heads header same (c.make_all.ensures.size (c.in-Err-Size.is ∙ ap Err c.in-Err-Size.field-0-is)) c.make_all.new.terms c.too_many.result
+    (c.too_many.ensures ∙ ap (λ n. verdict.GaveUp [] (limit.Terms n)) (c.most.ensures ∙ c.make_all.ensures.grows.most))
