@@ -16,3 +16,4 @@ pub mod ImageLemmas
 pub mod Judged
 pub mod MadeLemmas
 pub mod InLemmas
+pub mod CopyLemmas

@@ -361,13 +361,20 @@ fn recheck_within(
         (record { routine = routine.now; kind = condition.now.origin.kind; line = condition.now.origin.line }) terms.now condition.now (option_copied entry.entry)) }
 {
     match copy_condition(alloc, terms, condition, most) {
-        Ok(copied) => decided(
-            alloc, terms, condition, copied, names, titles, routine, most, true, rules, entry,
-        ),
+        Ok(copied) => {
+            copied.terms.law_arena();
+            decided(
+                alloc, terms, condition, copied, names, titles, routine, most, true, rules, entry,
+            )
+        }
         Err(TermFault::Size) => match copy_condition(alloc, terms, condition, u32::MAX) {
-            Ok(copied) => decided(
-                alloc, terms, condition, copied, names, titles, routine, most, false, rules, entry,
-            ),
+            Ok(copied) => {
+                copied.terms.law_arena();
+                decided(
+                    alloc, terms, condition, copied, names, titles, routine, most, false, rules,
+                    entry,
+                )
+            }
             Err(_) => Err(AllocError),
         },
         Err(TermFault::Memory) => Err(AllocError),

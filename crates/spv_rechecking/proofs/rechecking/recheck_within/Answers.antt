@@ -1,0 +1,10 @@
+use Rattle.std.proofs.Common.{◌∙◌, ap}
+use Rattle.std.specs.Prelude.{Err}
+use Rattle.spv_rechecking.proofs.CopyLemmas.{asked_with_room, asked_without_room}
+use Rattle.spv_rechecking.proofs.rechecking.recheck_within.Goals as goal
+
+pub decided-requires-clause-asked : goal.decided-requires-clause-asked
+decided-requires-clause-asked c = asked_with_room c.args.terms.now c.args.condition.now c.args.most c.in-Ok.copied c.in-Ok.ensures.copy c.law_arena.ensures c.requires.formulas
+
+pub decided-requires-in-Ok-copy_condition-clause-asked : goal.decided-requires-in-Ok-copy_condition-clause-asked
+decided-requires-in-Ok-copy_condition-clause-asked c = ?
