@@ -44,17 +44,3 @@ module _ (rules : List Rule) (first last : Arena) (c : Condition) (nodes : List 
       some_same : (a b : Verdict) → Some a ≡ Some b → a ≡ b
       some_same a b e = cc
   by_answer (Err stop.Memory) v is came stops = absurd cc
-
--- what the check of nodes comes to that a listing says so
-pub is_checked : (names : List (List ℕ)) (titles : List (Option Symbol)) (rules : List Rule) (first last : Arena) (c : Condition) (nodes : List ProofNode) (said : List (said_node.ProofNode Term)) (v : Verdict) → Extends first last → NodesIn first nodes → listed_nodes names (tree first) nodes ≡ said
-    → verdict_in last v ≡ verdict_by first.most nodes (outcome first.most (question_under rules first c) (trees_of first.nodes) nodes).ending
-    → IsChecked (record { names = names; titles = titles; rules = rules; most = first.most }) (sequent first c) (trees_of first.nodes) said last (verdict_in last v)
-is_checked names titles rules first last c nodes said v grows inside are is = record {
-  first = first;
-  terms_are = refl;
-  grows = grows;
-  nodes = nodes;
-  nodes_in = inside;
-  nodes_are = are;
-  verdict = is;
-}

@@ -10,5 +10,10 @@ pub mod JudgeLemmas
 pub mod PartsLemmas
 pub mod FoundLemmas
 pub mod NodeLemmas
+pub mod AllNodes
+pub mod EntryLemmas
+pub mod ImageLemmas
+pub mod Judged
+pub mod MadeLemmas
 pub mod InLemmas
 pub mod CopyLemmas

@@ -7,13 +7,14 @@ ghost use Rattle.spv_atoms.specs.Shape.{is_tree};
 ghost use Rattle.spv_listing_values.specs.Mapped.{step_at, node_at, split_terms};
 ghost use Rattle.spv_listing_values.specs.declared.data.Step.TheVariants as says;
 ghost use Rattle.spv_listing_values.specs.Places.{AreBefore};
-ghost use Rattle.spv_rechecking.specs.Parts.{are_placed, counts, has_cases};
+ghost use Rattle.spv_rechecking.specs.Parts.{are_placed, are_trees, counts, has_cases};
 ghost use Rattle.spv_rechecking.specs.Made.{images_at};
 ghost use Rattle.spv_rechecking.specs.Converted.{relation_over, term_at, IsRelationOf, IsStepOf, IsSplitOf, AreStepsOf, AreNodesOf, IsNodeOf, StepPlaced, StepsPlaced, NodesPlaced};
 
 use crate::making::{id_at, ids_at};
+use crate::parts::parts_of;
 use crate::written_terms::symbol_for;
-use spv_atoms::{ProofNode, Relation, Split, Stated, Step};
+use spv_atoms::{Proof, ProofNode, Relation, Split, Stated, Step};
 use spv_frac::Frac;
 use spv_listing_values::data;
 use spv_listing_values::texts::Text;
@@ -227,9 +228,9 @@ fn push_node(list: &mut Vec<ProofNode>, one: ProofNode) -> Result<(), AllocError
     Ok(())
 }
 
-/// The nodes of a proof over the terms of an arena, where each step is one over terms and each field a name of the program. A node is
-/// followed by its cases, whose places are these.
-pub(crate) fn nodes_of(
+// The nodes of a proof over the terms of an arena, where each step is one over terms and each field a name of the program. A node is
+// followed by its cases, whose places are these.
+fn nodes_of(
     alloc: Global,
     terms: &Terms,
     names: &Names,
@@ -253,4 +254,29 @@ pub(crate) fn nodes_of(
         push_node(&mut list, one)?;
     }
     Ok(Some(list))
+}
+
+/// The proof of these nodes over the terms of an arena, where each step is one over terms and each field a name of the program.
+pub(crate) fn proof_of(
+    alloc: Global,
+    terms: &Terms,
+    names: &Names,
+    images: &[TermId],
+    nodes: &[data::ProofNode<Text>],
+) -> Result<Option<Proof>, AllocError>
+    requires images { AllBelow (length terms.now.nodes) images.now }
+    requires placed { NodesPlaced (length images.now) nodes.now }
+    requires cases { list_all has_cases nodes.now ≡ true }
+    requires tree { are_trees 1 (counts nodes.now) ≡ true }
+    ensures { IfOk result (λ proof. AreNodesOf names.now terms.now (map (node_at (term_at terms.now images.now)) nodes.now) proof) }
+{
+    if nodes.len() > u32::MAX as usize {
+        return Err(AllocError);
+    }
+    let parts = parts_of(alloc, nodes)?;
+    let made = nodes_of(alloc, terms, names, images, nodes, parts.as_slice())?;
+    match made {
+        Some(list) => Ok(Some(Proof::new(list))),
+        None => Ok(None),
+    }
 }

@@ -5,8 +5,10 @@ ghost use Rattle.spv_logic.specs.Terms.{term_eq};
 ghost use Rattle.spv_term.specs.Arena.{AllBelow, Extends, sequent, tree, trees_of};
 ghost use Rattle.spv_models.specs.leaf_models.Laws.{AreFormulas};
 ghost use Rattle.spv_models.specs.leaf_models.Tables.{formulas_of};
-ghost use Rattle.spv_proof_rules.specs.Stand.{question};
+ghost use Rattle.spv_proof_rules.specs.Stand.{question, question_under, NodesIn};
+ghost use Rattle.spv_proof_rules.specs.Outcomes.{outcome};
 ghost use Rattle.spv_verdicts.specs.Verdicts.{most_terms};
+ghost use Rattle.spv_verdicts.specs.answers.Views.{VerdictIn, verdict_in};
 ghost use Rattle.spv_rules.specs.RuleSets.{rules_in};
 ghost use Rattle.std.specs.List.{filter};
 ghost use Rattle.spv_proof.specs.checker.Ends.{ConditionIn};
@@ -24,9 +26,8 @@ ghost use Rattle.spv_rechecking.specs.Converted.{term_at};
 ghost use Rattle.spv_rechecking.specs.Asked.{verdict_after, IsJudged, IsAsked, IsFound};
 
 use crate::comparing::{same_claim, same_header};
-use crate::converting::nodes_of;
+use crate::converting::proof_of;
 use crate::making::{id_at, ids_at, make_all};
-use crate::parts::parts_of;
 use crate::written_terms::{Leaves, heads_of, leaves_of};
 use spv_atoms::Proof;
 use spv_listing_values::Entry;
@@ -129,6 +130,28 @@ fn is_same(
     Ok(same_claim(terms, ids.as_slice(), goal, own, condition.goal))
 }
 
+// The verdict of the check of a proof.
+fn check_proof(
+    alloc: Global,
+    terms: &mut Terms,
+    condition: &Condition,
+    rules: &Rules,
+    proof: Proof,
+) -> Result<Verdict, AllocError>
+    requires condition { ConditionIn terms.old condition.now }
+    requires shapes { rules.now.arena.shapes ≡ terms.old.shapes }
+    requires decls { rules.now.arena.decls ≡ terms.old.decls }
+    requires proof { NodesIn terms.old proof }
+    ensures terms_in { IfOk result (VerdictIn terms.new) }
+    ensures verdict { IfOk result (λ v. verdict_in terms.new v ≡ spec.verdict_by terms.old.most proof
+        (outcome terms.old.most (question_under (rules_in rules.now) terms.old condition.now) (trees_of terms.old.nodes) proof).ending) }
+    ensures grows { OnOk result (Extends terms.old terms.new) }
+{
+    let most = terms.most();
+    let answer = check_under(alloc, terms, condition, rules, &proof);
+    verdict_of(alloc, most, proof, answer)
+}
+
 // The verdict of a recheck, where the texts of the listing have these ids.
 fn check_with(
     alloc: Global,
@@ -146,6 +169,7 @@ fn check_with(
     requires shapes { rules.now.arena.shapes ≡ terms.old.shapes }
     requires decls { rules.now.arena.decls ≡ terms.old.decls }
     requires entry { IsEntry texts.now claim.now }
+    requires proof { spec.has_node (spec.proof_of claim.now.verdict) ≡ true }
     requires images { AreImages (vocabulary_in names.now titles.now leaves.now terms.old) terms.old (trees texts.now) images.now }
     ensures judged { IfOk result (IsJudged (record { names = names.now; titles = titles.now; rules = rules_in rules.now; most = terms.old.most })
         (vocabulary_in names.now titles.now leaves.now terms.old) terms.old condition.now (written_claim texts.now claim.now) terms.new) }
@@ -154,19 +178,16 @@ fn check_with(
     let _ = titles;
     let _ = leaves;
     let _ = texts;
-    if !is_same(alloc, terms, condition, claim, images)? {
+    let same = is_same(alloc, terms, condition, claim, images)?;
+    if !same {
         return Ok(Verdict::NotAccepted);
     }
     let said = proof_in(&claim.verdict);
-    let parts = parts_of(alloc, said)?;
-    let made = nodes_of(alloc, terms, names, images, said, parts.as_slice())?;
-    let Some(nodes) = made else {
-        return Ok(Verdict::NotAccepted);
-    };
-    let proof = Proof::new(nodes);
-    let most = terms.most();
-    let outcome = check_under(alloc, terms, condition, rules, &proof);
-    verdict_of(alloc, most, proof, outcome)
+    let made = proof_of(alloc, terms, names, images, said)?;
+    match made {
+        Some(proof) => check_proof(alloc, terms, condition, rules, proof),
+        None => Ok(Verdict::NotAccepted),
+    }
 }
 
 // The verdict of a recheck over an arena that has the condition, in which the texts of the listing have these heads.
@@ -195,18 +216,21 @@ fn make_and_check(
     ensures grows { OnOk result (Extends terms.old terms.new) }
 {
     match make_all(alloc, names, titles, leaves, texts, heads, terms) {
-        Ok(images) => check_with(
-            alloc,
-            terms,
-            condition,
-            names,
-            titles,
-            rules,
-            leaves,
-            texts,
-            claim,
-            images.as_slice(),
-        ),
+        Ok(images) => {
+            terms.law_arena();
+            check_with(
+                alloc,
+                terms,
+                condition,
+                names,
+                titles,
+                rules,
+                leaves,
+                texts,
+                claim,
+                images.as_slice(),
+            )
+        }
         Err(TermFault::Size) => Ok(too_many(alloc, terms.most())),
         Err(TermFault::Memory) => Err(AllocError),
     }

@@ -1,0 +1,1 @@
+use Rattle.spv_rechecking.proofs.converting.proof_of.Goals as goal
