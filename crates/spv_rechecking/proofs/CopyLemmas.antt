@@ -35,9 +35,11 @@ module _ (a : Arena) (ok : IsArena a) where
 
   all_formulas : (ts : List TermId) → AllBelow (length a.nodes) ts → AreFormulas a.shapes a.decls (map (tree a) ts) → AllFormulas a ts
   all_formulas [] there are = tt
-  all_formulas (t ∷ ts) there are =
-      (there.0, is_bool t there.0 (are (tree a t) (or_left (term_eq (tree a t) (tree a t)) (is_among (map (tree a) ts) (tree a t)) (term_eq-refl (tree a t)))),
-      all_formulas ts there.1 (λ f h. are f (or_right (term_eq f (tree a t)) (is_among (map (tree a) ts) f) h)))
+  all_formulas (t ∷ ts) there are = (
+    there.0,
+    is_bool t there.0 (are (tree a t) (or_left (term_eq (tree a t) (tree a t)) (is_among (map (tree a) ts) (tree a t)) (term_eq-refl (tree a t)))),
+    all_formulas ts there.1 (λ f h. are f (or_right (term_eq f (tree a t)) (is_among (map (tree a) ts) f) h)),
+  )
 
   pub formulas_in : (c : Condition) → AllBelow (length a.nodes) c.given → c.goal.0 < length a.nodes → AreFormulas a.shapes a.decls (formulas_of (sequent a c)) → ConditionIn a c
   formulas_in c given goal are = record {
