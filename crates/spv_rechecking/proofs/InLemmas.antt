@@ -1,5 +1,5 @@
 -- What a recheck over an arena finds before anything is made, over plain variables.
-use Rattle.std.proofs.Common.{◌≡◌, ℕ, ◌<◌, Bool, true, false, Option, Some, None, Result, Ok, Err, IfOk, List, [], map, length, refl, sym, ap, subst, ◌∙◌}
+use Rattle.std.proofs.Common.{◌≡◌, ◌<◌, true, false, Option, Some, None, Result, Ok, Err, IfOk, List, [], map, length, sym, ap, subst, ◌∙◌}
 use Rattle.std.specs.List.{list_all, filter}
 use Rattle.std.specs.declared.alloc.AllocError.{AllocError}
 use Rattle.std.specs.Option.{option_map}
@@ -26,7 +26,7 @@ use Rattle.spv_rechecking.specs.written_terms.Words as words
 use Rattle.spv_rechecking.specs.written_terms.Read.{head_read, HeadsAre}
 use Rattle.spv_rechecking.specs.Rechecked.{Recheck, leaves, vocabulary, proof_of, has_node, header_eq, is_about}
 use Rattle.spv_rechecking.specs.Asked.{IsFound}
-use Rattle.spv_rechecking.proofs.ReadLemmas.{leaves_are, about_same, not_about, not_standing, too_many, one_fails, all_stand, more_than_all}
+use Rattle.spv_rechecking.proofs.ReadLemmas.{leaves_are, about_same, not_standing, too_many, one_fails, all_stand, more_than_all}
 use Rattle.spv_rechecking.proofs.FoundLemmas.{found_other, found_many}
 
 module _ (r : Recheck) (header : Header) (a : Arena) (c : Condition) (terms_are : trees_of a.nodes ≡ all_terms (sequent a c)) (fs : List Flat) (claim : Claim Text) (ok : IsEntry fs claim) (e : Claim Written) (is : written_claim fs claim ≡ e) where
@@ -41,10 +41,6 @@ module _ (r : Recheck) (header : Header) (a : Arena) (c : Condition) (terms_are 
   words_same l found shapes p decls q =
       let same : l.heads.items ≡ leaves (sequent a c) = found ∙ leaves_are a (sequent a c) terms_are in
       λ i. record { words = record { names = r.names; titles = r.titles; leaves = same i }; shapes = p i; decls = q i }
-
-  -- nothing is found where it is about something else
-  pub not_spoken : is_about header claim ≡ false → (last : Arena) → IsFound r header a c (Some e) last verdict.NotAccepted
-  not_spoken h last = found_other r header a last c (Some e) (not_about v r.most header (sequent a c) e (ap (is_about header) (sym is) ∙ (about_same header fs claim ∙ h)))
 
   about_is : is_about header claim ≡ true → is_about header e ≡ true
   about_is h = ap (is_about header) (sym is) ∙ (about_same header fs claim ∙ h)

@@ -1,4 +1,4 @@
-use Rattle.std.proofs.Common.{[], ◌≡◌, ◌∙◌, sym}
+use Rattle.std.proofs.Common.{◌∙◌, sym}
 use Rattle.spv_listing_values.specs.declared.data.Header.{Header}
 use Rattle.spv_listing_values.specs.Places.{trees}
 use Rattle.spv_rules.specs.RuleSets.{rules_in}
