@@ -1,10 +1,10 @@
 -- A condition in an arena of its own: it is as a recheck wants it, and what is found of it there was found of the condition.
-use Rattle.std.proofs.Common.{◌≡◌, ℕ, ◌<◌, Bool, true, false, ◌||◌, List, [], ◌∷◌, map, length, Option, Some, refl, sym, ap, subst, ◌∙◌, arith}
+use Rattle.std.proofs.Common.{◌≡◌, ℕ, ◌<◌, Bool, true, false, List, [], ◌∷◌, map, length, Option, Some, refl, sym, ap, subst, ◌∙◌, arith}
 use Rattle.spv_logic.specs.declared.conditions.TermId.{TermId}
 use Rattle.spv_logic.specs.declared.types.Sort.TheVariants as sort
 use Rattle.spv_logic.specs.declared.types.Shape.{Shape}
 use Rattle.spv_logic.specs.declared.types.Decl.{Decl}
-use Rattle.spv_logic.specs.Terms.{Term, term_eq}
+use Rattle.spv_logic.specs.Terms.{term_eq}
 use Rattle.spv_logic.specs.Conditions.{Sequent}
 use Rattle.spv_logic.proofs.Equality.{sort_eq-true, term_eq-refl}
 use Rattle.spv_term.specs.declared.nodes.Condition.{Condition}

@@ -1,5 +1,5 @@
 -- What a recheck over an arena finds before anything is made, over plain variables.
-use Rattle.std.proofs.Common.{◌≡◌, ℕ, ◌<◌, Bool, true, false, Option, Some, None, Result, Ok, Err, IfOk, List, [], map, length, refl, sym, ap, subst, ◌∙◌}
+use Rattle.std.proofs.Common.{◌≡◌, ◌<◌, true, false, Option, Some, None, Result, Ok, Err, IfOk, List, [], map, length, sym, ap, subst, ◌∙◌}
 use Rattle.std.specs.List.{list_all, filter}
 use Rattle.std.specs.declared.alloc.AllocError.{AllocError}
 use Rattle.std.specs.Option.{option_map}

@@ -1,7 +1,6 @@
 use Rattle.std.proofs.Common.{◌&&◌, ◌<◌, length, map, sym, ap, subst, ◌∙◌}
 use Rattle.spv_logic.specs.Terms.{term_eq}
 use Rattle.spv_term.specs.Arena.{AllBelow, tree}
-use Rattle.spv_listing_values.specs.Places.{AreBefore}
 use Rattle.spv_rechecking.specs.Rechecked.{terms_eq}
 use Rattle.spv_rechecking.specs.Made.{images_at}
 use Rattle.spv_rechecking.proofs.ConvertLemmas.{image_inside, images_inside, images_terms}
