@@ -1,13 +1,11 @@
 -- A proof that a recheck finds accepted is accepted for the condition.
-use Rattle.std.proofs.Common.{◌≡◌, ℕ, ◌<◌, Bool, true, false, List, [], Option, Some, None, refl, sym, ap, subst, ◌∙◌}
-use Rattle.spv_logic.specs.declared.conditions.TermId.{TermId}
+use Rattle.std.proofs.Common.{◌≡◌, ℕ, Bool, true, false, List, Option, refl, sym, ap, subst, ◌∙◌}
 use Rattle.spv_logic.specs.Terms.{Term}
 use Rattle.spv_logic.specs.Conditions.{Sequent}
 use Rattle.spv_term.specs.declared.nodes.Condition.{Condition}
-use Rattle.spv_term.specs.Arena.{Arena, Extends, sequent, tree}
+use Rattle.spv_term.specs.Arena.{Arena, sequent, tree}
 use Rattle.spv_term.proofs.ArenaLemmas.{tree-Extends}
 use Rattle.spv_atoms.specs.declared.proofs.ProofNode.{ProofNode}
-use Rattle.spv_proof_rules.specs.Effects.{Question}
 use Rattle.spv_proof_rules.specs.Accepted.{accepts}
 use Rattle.spv_proof_rules.specs.Stand.{NodesIn, question_under}
 use Rattle.spv_proof_rules.specs.Stops as stop

@@ -1,5 +1,5 @@
 -- A proof whose terms are the same in two readings is accepted in one where it is in the other.
-use Rattle.std.proofs.Common.{◌≡◌, ℕ, ◌<◌, Bool, true, false, ◌&&◌, List, [], ◌∷◌, ◌++◌, map, length, Option, Some, None, if◌then◌else◌, refl, sym, ap, ◌∙◌}
+use Rattle.std.proofs.Common.{◌≡◌, ℕ, ◌<◌, Bool, true, false, ◌&&◌, List, [], ◌∷◌, ◌++◌, map, length, Option, Some, None, if◌then◌else◌, refl, ap, ◌∙◌}
 use Rattle.std.specs.Prelude.{nat_eq}
 use Rattle.spv_whole.specs.Fraction.{Fraction}
 use Rattle.spv_logic.specs.declared.conditions.TermId.{TermId}
@@ -23,8 +23,8 @@ use Rattle.spv_atoms.specs.Atoms as atoms
 use Rattle.spv_proof_rules.specs.Rules.{Rule, numbered_rule, instance_of}
 use Rattle.spv_proof_rules.specs.Sums.{refutes}
 use Rattle.spv_proof_rules.specs.Effects.{Question, Effect, Adds, Ends, Fails, adds_if, adds_known, congruent, at_most, is_empty, linear, stated, evaluated, fact_of_kind, cited, effect}
-use Rattle.spv_proof_rules.specs.Accepted.{Path, Open, Closed, Broken, closed_if_last, on_effect, walk, cases_of, opened_if, opened, after_node, on_opened, closes, accepts}
-use Rattle.spv_proof_rules.specs.Stand.{In, RelationIn, StatedIn, StepIn, StepsIn, SplitIn, NodesIn}
+use Rattle.spv_proof_rules.specs.Accepted.{Path, Open, Closed, Broken, closed_if_last, on_effect, walk, cases_of, opened_if, after_node, on_opened, closes, accepts}
+use Rattle.spv_proof_rules.specs.Stand.{RelationIn, StatedIn, StepIn, StepsIn, SplitIn, NodesIn}
 
 module _ (shapes : List Shape) (decls : List Decl) (c : Sequent) (rules : List Rule) (a : Arena) (at other : TermId → Term) (same : (t : TermId) → t.0 < length a.nodes → at t ≡ other t) where
   abbrev over : (TermId → Term) → Question

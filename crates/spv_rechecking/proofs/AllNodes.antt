@@ -1,5 +1,5 @@
 -- Nodes that are made one behind the other, and what a listing says of all of them, over plain variables.
-use Rattle.std.proofs.Common.{◌≡◌, ℕ, zero, suc, ◌+◌, ◌<◌, ◌≤◌, Bool, true, false, ◌&&◌, Option, Some, None, IfSome, IsTrue, List, [], ◌∷◌, ◌++◌, map, take, length, get_or, nat_eq, refl, sym, ap, subst, ◌∙◌, arith}
+use Rattle.std.proofs.Common.{◌≡◌, ℕ, zero, suc, ◌+◌, ◌<◌, ◌≤◌, true, false, ◌&&◌, Option, Some, None, IsTrue, List, [], ◌∷◌, ◌++◌, map, take, length, get_or, nat_eq, refl, sym, ap, subst, ◌∙◌, arith}
 use Rattle.std.specs.List.{list_all}
 use Rattle.std.specs.Option.{option_map}
 use Rattle.std.proofs.lemmas.Bool.{false≢true, eqb-true}
@@ -11,7 +11,7 @@ use Rattle.spv_term.specs.Arena.{Arena, AllBelow, tree}
 use Rattle.spv_atoms.specs.declared.proofs.Split as own_split
 use Rattle.spv_atoms.specs.declared.proofs.ProofNode as own
 use Rattle.spv_atoms.specs.Shape as shape
-use Rattle.spv_proof_rules.specs.Stand.{SplitIn, NodesIn}
+use Rattle.spv_proof_rules.specs.Stand.{SplitIn}
 use Rattle.spv_listing_values.specs.declared.texts.Text.{Text}
 use Rattle.spv_listing_values.specs.declared.data.Split.{Split}
 use Rattle.spv_listing_values.specs.declared.data.ProofNode.{ProofNode}
@@ -19,8 +19,7 @@ use Rattle.spv_listing_values.specs.Mapped.{split_at, node_at, split_terms}
 use Rattle.spv_listing_values.specs.Places.{AreBefore}
 use Rattle.spv_listing_values.proofs.Numerals.{both_true}
 use Rattle.spv_rechecking.specs.Rechecked.{is_node}
-use Rattle.spv_rechecking.specs.Listed.{listed_split, listed_nodes}
-use Rattle.spv_rechecking.specs.Made.{image_at}
+use Rattle.spv_rechecking.specs.Listed.{listed_split}
 use Rattle.spv_rechecking.specs.Parts.{cases_of, counts, are_placed, has_cases}
 use Rattle.spv_rechecking.specs.Converted.{term_at, IsSplitOf, IsNodeOf, AreNodesOf, StepsPlaced, NodesPlaced}
 use Rattle.spv_rechecking.proofs.ConvertLemmas.{image_inside}

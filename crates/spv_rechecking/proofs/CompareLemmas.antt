@@ -1,11 +1,10 @@
 -- Terms of an arena that are compared by their ids.
-use Rattle.std.proofs.Common.{◌≡◌, ℕ, zero, suc, ◌+◌, ◌<◌, Bool, true, false, ◌&&◌, List, [], ◌∷◌, map, length, drop, get_or, refl, sym, ap, subst, ◌∙◌, nat_eq, arith}
+use Rattle.std.proofs.Common.{◌≡◌, suc, ◌<◌, Bool, true, false, ◌&&◌, List, [], ◌∷◌, map, length, refl, sym, ap, ◌∙◌, nat_eq}
 use Rattle.std.proofs.lemmas.Bool.{false≢true, eqb-true, eq-eqb}
-use Rattle.std.proofs.lemmas.List.{drop_more, length-map}
 use Rattle.spv_logic.specs.declared.conditions.TermId.{TermId}
-use Rattle.spv_logic.specs.Terms.{Term, term_eq}
+use Rattle.spv_logic.specs.Terms.{term_eq}
 use Rattle.spv_logic.proofs.Equality.{term_eq-true, term_eq-refl}
-use Rattle.spv_term.specs.Arena.{Arena, IsArena, AllBelow, tree}
+use Rattle.spv_term.specs.Arena.{Arena, IsArena, tree}
 use Rattle.spv_term.proofs.ArenaLemmas.{same_id}
 use Rattle.spv_rechecking.specs.Rechecked.{terms_eq}
 

@@ -1,21 +1,21 @@
 -- What a recheck finds, over plain variables.
-use Rattle.std.proofs.Common.{◌≡◌, ℕ, ◌<◌, ◌≤◌, Bool, true, false, ◌&&◌, Option, Some, None, List, [], ◌∷◌, length, refl, sym, ap, subst, ◌∙◌}
+use Rattle.std.proofs.Common.{◌≡◌, ◌≤◌, Bool, true, false, ◌&&◌, Option, Some, List, [], length, refl, sym, subst}
 use Rattle.std.specs.List.{list_all}
 use Rattle.spv_logic.specs.Terms.{Term}
 use Rattle.spv_logic.specs.Conditions.{Sequent}
 use Rattle.spv_term.specs.declared.nodes.Condition.{Condition}
-use Rattle.spv_term.specs.Arena.{Arena, Extends, sequent, trees_of}
+use Rattle.spv_term.specs.Arena.{Arena, sequent, trees_of}
 use Rattle.spv_verdicts.specs.Verdicts as verdicts
 use Rattle.spv_verdicts.specs.declared.answers.verdicts.Limit.TheVariants as limit
 use Rattle.spv_verdicts.specs.declared.answers.verdicts.Verdict.{Verdict}
 use Rattle.spv_verdicts.specs.declared.answers.verdicts.Verdict.TheVariants as verdict
-use Rattle.spv_verdicts.specs.answers.Views.{VerdictIn, verdict_in}
+use Rattle.spv_verdicts.specs.answers.Views.{verdict_in}
 use Rattle.spv_listing_values.specs.declared.data.Header.{Header}
 use Rattle.spv_listing_values.specs.declared.data.Claim.{Claim}
 use Rattle.spv_listing_values.specs.Written.{Written}
 use Rattle.spv_listing_values.specs.Mapped.{claim_terms}
 use Rattle.spv_rechecking.specs.written_terms.Standing.{Vocabulary, stands}
-use Rattle.spv_rechecking.specs.Rechecked.{Recheck, vocabulary, is_about, is_same, is_node, known, nodes_of, Reading, Other, TooMany, Reads, reading, IsChecked, IsVerdictOf}
+use Rattle.spv_rechecking.specs.Rechecked.{Recheck, vocabulary, is_about, is_same, is_node, known, nodes_of, Reading, Other, TooMany, reading, IsChecked, IsVerdictOf}
 use Rattle.spv_rechecking.specs.Asked.{IsChosen, IsJudged, IsFound}
 use Rattle.spv_rechecking.proofs.ReadLemmas.{not_fitting, is_read}
 

@@ -1,9 +1,9 @@
 -- What is said of the ids of texts is what is said of the terms that they stand for, over plain variables.
-use Rattle.std.proofs.Common.{◌≡◌, ℕ, ◌<◌, Bool, ◌&&◌, Option, Some, None, List, [], ◌∷◌, map, length, refl, sym, ap, ◌∙◌}
+use Rattle.std.proofs.Common.{◌≡◌, ◌<◌, ◌&&◌, Option, Some, None, List, [], ◌∷◌, map, length, refl, sym, ap, ◌∙◌}
 use Rattle.std.specs.Option.{option_map}
 use Rattle.std.proofs.lemmas.List.{length-map}
 use Rattle.spv_logic.specs.declared.conditions.TermId.{TermId}
-use Rattle.spv_logic.specs.Terms.{Term, term_eq}
+use Rattle.spv_logic.specs.Terms.{term_eq}
 use Rattle.spv_logic.specs.Conditions.{Sequent}
 use Rattle.spv_term.specs.Arena as arena
 use Rattle.spv_term.specs.Arena.{Arena}

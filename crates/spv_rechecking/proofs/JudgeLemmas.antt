@@ -1,26 +1,18 @@
 -- The answer of the checker as a verdict, over plain variables.
-use Rattle.std.proofs.Common.{◌≡◌, ℕ, ◌<◌, Bool, true, false, ◌&&◌, Option, Some, None, Result, Ok, Err, List, [], ◌∷◌, map, length, IfOk, IfErr, refl, sym, ap, subst, ◌∙◌}
-use Rattle.std.specs.List.{list_all}
-use Rattle.spv_logic.specs.declared.names.names.Symbol.{Symbol}
-use Rattle.spv_logic.specs.declared.conditions.TermId.{TermId}
-use Rattle.spv_logic.specs.Terms.{Term}
-use Rattle.spv_logic.specs.Conditions.{Sequent}
+use Rattle.std.proofs.Common.{◌≡◌, Bool, true, false, Some, Result, Ok, Err, List, IfOk, IfErr, sym, ap, ◌∙◌}
 use Rattle.spv_term.specs.declared.nodes.Condition.{Condition}
-use Rattle.spv_term.specs.Arena.{Arena, AllBelow, Extends, sequent, tree, trees_of}
+use Rattle.spv_term.specs.Arena.{Arena, trees_of}
 use Rattle.spv_atoms.specs.declared.proofs.ProofNode.{ProofNode}
 use Rattle.spv_proof_rules.specs.Rules.{Rule}
-use Rattle.spv_proof_rules.specs.Stand.{NodesIn, question_under}
-use Rattle.spv_proof_rules.specs.Outcomes.{Ending, Comes, outcome}
+use Rattle.spv_proof_rules.specs.Stand.{question_under}
+use Rattle.spv_proof_rules.specs.Outcomes.{outcome}
 use Rattle.spv_proof.specs.declared.checker.stops.CheckStop.{CheckStop}
 use Rattle.spv_proof.specs.declared.checker.stops.CheckStop.TheVariants as stop
 use Rattle.spv_proof.specs.checker.Ends.{EndsAs, comes_in}
-use Rattle.spv_verdicts.specs.Verdicts as verdicts
 use Rattle.spv_verdicts.specs.declared.answers.verdicts.Verdict.{Verdict}
 use Rattle.spv_verdicts.specs.declared.answers.verdicts.Verdict.TheVariants as verdict
-use Rattle.spv_verdicts.specs.answers.Views.{VerdictIn, verdict_in}
-use Rattle.spv_listing_values.specs.declared.data.ProofNode as said_node
-use Rattle.spv_rechecking.specs.Rechecked.{Recheck, verdict_by, question_over, IsChecked}
-use Rattle.spv_rechecking.specs.Listed.{listed_nodes}
+use Rattle.spv_verdicts.specs.answers.Views.{verdict_in}
+use Rattle.spv_rechecking.specs.Rechecked.{verdict_by}
 use Rattle.spv_rechecking.specs.Asked.{verdict_after}
 
 module _ (rules : List Rule) (first last : Arena) (c : Condition) (nodes : List ProofNode) where

@@ -1,7 +1,6 @@
 -- Which verdict is judged, where the texts of a listing have ids, over plain variables.
-use Rattle.std.proofs.Common.{◌≡◌, ℕ, Bool, true, false, ◌&&◌, Option, Some, None, Result, Ok, Err, List, [], ◌∷◌, length, IfOk, IfErr, OnOk, refl, sym, ap, subst, ◌∙◌}
+use Rattle.std.proofs.Common.{◌≡◌, ℕ, Bool, true, false, ◌&&◌, Option, Some, None, Result, Ok, Err, List, [], ◌∷◌, IfOk, IfErr, OnOk, refl, sym, ap, subst, ◌∙◌}
 use Rattle.std.specs.List.{list_all}
-use Rattle.spv_logic.specs.declared.names.names.Symbol.{Symbol}
 use Rattle.spv_logic.specs.Terms.{Term}
 use Rattle.spv_logic.proofs.list.Tests.{and_false}
 use Rattle.spv_term.specs.declared.nodes.Condition.{Condition}
@@ -9,7 +8,6 @@ use Rattle.spv_term.specs.Arena.{Arena, Extends, sequent, tree, trees_of}
 use Rattle.spv_atoms.specs.declared.proofs.Step.{Step}
 use Rattle.spv_atoms.specs.declared.proofs.Split.{Split}
 use Rattle.spv_atoms.specs.declared.proofs.ProofNode.{ProofNode}
-use Rattle.spv_proof_rules.specs.Rules.{Rule}
 use Rattle.spv_proof_rules.specs.Stand.{StepsIn, SplitIn, NodesIn, question_under}
 use Rattle.spv_proof_rules.specs.Outcomes.{Outcome, outcome}
 use Rattle.spv_proof_rules.proofs.Staying.{below-Extends, StepIn-Extends}

@@ -1,11 +1,11 @@
 -- What a recheck finds once the terms of the texts are made, or are too many, over plain variables.
-use Rattle.std.proofs.Common.{◌≡◌, ℕ, ◌<◌, ◌≤◌, true, Option, Some, List, [], map, length, refl, sym, ap, subst, ◌∙◌}
+use Rattle.std.proofs.Common.{◌≡◌, ℕ, ◌<◌, true, Option, Some, List, [], map, length, sym, subst, ◌∙◌}
 use Rattle.std.specs.List.{list_all, filter}
 use Rattle.spv_logic.specs.declared.names.names.Symbol.{Symbol}
 use Rattle.spv_logic.specs.declared.conditions.TermId.{TermId}
 use Rattle.spv_logic.specs.declared.operators.Head.{Head}
 use Rattle.spv_term.specs.declared.nodes.Condition.{Condition}
-use Rattle.spv_term.specs.Arena.{Arena, IsArena, Extends, sequent, tree, trees_of}
+use Rattle.spv_term.specs.Arena.{Arena, IsArena, Extends, sequent, trees_of}
 use Rattle.spv_term.proofs.ArenaLemmas.{tree-Extends, map_tree-Extends}
 use Rattle.spv_proof_rules.specs.Rules.{Rule}
 use Rattle.spv_proof_steps.proofs.StepLemmas.{AllBelow-formulas}

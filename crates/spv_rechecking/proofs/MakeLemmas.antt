@@ -1,5 +1,5 @@
 -- Terms of texts that are made one behind the other, over plain variables.
-use Rattle.std.proofs.Common.{◌≡◌, ℕ, zero, suc, ◌+◌, ◌<◌, ◌≤◌, Bool, true, false, ◌&&◌, Option, Some, None, IsSome, is_some, IsTrue, List, [], ◌∷◌, ◌++◌, map, take, drop, length, get_or, slice_get, refl, sym, ap, subst, ◌∙◌, arith}
+use Rattle.std.proofs.Common.{◌≡◌, ℕ, zero, suc, ◌+◌, ◌<◌, ◌≤◌, true, Option, Some, None, IsSome, is_some, IsTrue, List, [], ◌∷◌, ◌++◌, map, take, drop, length, get_or, slice_get, refl, sym, ap, subst, ◌∙◌, arith}
 use Rattle.std.specs.Option.{option_map}
 use Rattle.std.proofs.lemmas.List.{length-map, length-take-le, get_or-take, map-append, drop_more, take_more, take_all}
 use Rattle.std.proofs.lemmas.Option.{slice_get-get_or, get_or_from_slice_get}
@@ -9,18 +9,18 @@ use Rattle.spv_logic.specs.declared.operators.Head.{Head}
 use Rattle.spv_logic.specs.Terms.{Term, Terms, term, no_terms, terms, heads_pass, all_heads_pass}
 use Rattle.spv_logic.specs.Sorts.{term_sort, term_sorts, with_sorts, result_sort, head_in_range, numeral_fits}
 use Rattle.spv_logic.proofs.list.Tests.{left_true, right_true}
-use Rattle.spv_term.specs.Arena.{Arena, IsArena, AllBelow, tree, trees, sort_at, sorts_at, Extends}
+use Rattle.spv_term.specs.Arena.{Arena, IsArena, AllBelow, tree, trees, sorts_at, Extends}
 use Rattle.spv_term.proofs.ArenaLemmas.{term_sorts-trees, map_tree-Extends, AllBelow-Extends, Extends-refl, Extends-trans}
 use Rattle.spv_term.proofs.TreeLemmas.{AllBelow-append, AllBelow-at}
 use Rattle.spv_listing_values.specs.declared.texts.Text.{Text}
-use Rattle.spv_listing_values.specs.Written.{Written, Writtens, written, no_written, writtens, word}
+use Rattle.spv_listing_values.specs.Written.{Written, written, word}
 use Rattle.spv_listing_values.specs.Places.{Flat, flat_in, AreBefore, IsTable, args_at, at}
 use Rattle.spv_listing_values.specs.Places as places
 use Rattle.spv_listing_values.proofs.Trees.{tree-node}
 use Rattle.spv_search_terms.specs.subterms.Gaining.{Gains, Stops, Remains}
 use Rattle.spv_search_terms.proofs.subterms.GainLemmas.{Remains-all, remains-behind, remains-stops, remains-gained}
 use Rattle.spv_rechecking.specs.declared.written_terms.leaves.Leaves.{Leaves}
-use Rattle.spv_rechecking.specs.written_terms.Standing.{Vocabulary, top, may_stand, term_for, stands}
+use Rattle.spv_rechecking.specs.written_terms.Standing.{Vocabulary, top, may_stand, term_for}
 use Rattle.spv_rechecking.specs.written_terms.Read.{head_read}
 use Rattle.spv_rechecking.proofs.written_terms.Lists.{mapped-at}
 use Rattle.spv_rechecking.proofs.written_terms.Levels.{table_before, so_many_trees}

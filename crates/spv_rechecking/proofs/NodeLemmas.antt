@@ -1,31 +1,19 @@
 -- Nodes of a proof over an arena, and what a listing says of them, over plain variables.
-use Rattle.std.proofs.Common.{◌≡◌, ℕ, zero, suc, ◌+◌, ◌<◌, ◌≤◌, Bool, true, false, ◌&&◌, Option, Some, None, List, [], ◌∷◌, ◌++◌, map, take, drop, length, get_or, nat_eq, nat_lt, refl, sym, ap, subst, ◌∙◌, arith}
+use Rattle.std.proofs.Common.{◌≡◌, ℕ, zero, suc, ◌<◌, Bool, true, ◌&&◌, Option, Some, None, List, [], ◌∷◌, ◌++◌, length, nat_eq, nat_lt, refl, sym, ap, subst, ◌∙◌, arith}
 use Rattle.std.specs.List.{list_all}
-use Rattle.std.specs.Option.{option_map}
-use Rattle.std.proofs.lemmas.Bool.{false≢true, eqb-true, eq-eqb}
-use Rattle.std.proofs.lemmas.List.{map-append, take_more, take_all, drop_more}
-use Rattle.std.proofs.lemmas.List.Folds.{list_all-append}
+use Rattle.std.proofs.lemmas.Bool.{false≢true, eqb-true}
 use Rattle.spv_logic.specs.declared.conditions.TermId.{TermId}
-use Rattle.spv_logic.specs.Terms.{Term}
-use Rattle.spv_logic.proofs.list.Tests.{left_true, right_true, and_false}
-use Rattle.spv_term.specs.Arena.{Arena, AllBelow, tree}
+use Rattle.spv_logic.proofs.list.Tests.{left_true, right_true}
 use Rattle.spv_atoms.specs.declared.proofs.Split as own_split
 use Rattle.spv_atoms.specs.declared.proofs.ProofNode as own
 use Rattle.spv_atoms.specs.Shape as shape
-use Rattle.spv_proof_rules.specs.Stand.{SplitIn, StepsIn, NodesIn}
 use Rattle.spv_listing_values.specs.declared.texts.Text.{Text}
-use Rattle.spv_listing_values.specs.declared.data.Step.{Step}
 use Rattle.spv_listing_values.specs.declared.data.Split.{Split}
 use Rattle.spv_listing_values.specs.declared.data.ProofNode.{ProofNode}
-use Rattle.spv_listing_values.specs.Mapped.{step_at, split_at, node_at, split_terms}
-use Rattle.spv_listing_values.specs.Places.{AreBefore}
 use Rattle.spv_listing_values.proofs.Numerals.{both_true}
-use Rattle.spv_rechecking.specs.Rechecked.{is_node}
-use Rattle.spv_rechecking.specs.Listed.{listed_step, listed_split, listed_node, listed_nodes}
 use Rattle.spv_rechecking.specs.Made.{image_at}
 use Rattle.spv_rechecking.specs.Parts.{cases_of, counts, are_placed, has_cases}
-use Rattle.spv_rechecking.specs.Converted.{term_at, IsSplitOf, IsNodeOf, AreNodesOf, StepsPlaced, NodesPlaced}
-use Rattle.spv_rechecking.proofs.ConvertLemmas.{image_inside}
+use Rattle.spv_rechecking.specs.Converted.{IsSplitOf}
 
 -- ---- each node has the places of its cases
 

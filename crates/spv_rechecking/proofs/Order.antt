@@ -1,8 +1,8 @@
 -- The terms of a table in order are those of the texts that are named, each behind its subterms where it is new.
-use Rattle.std.proofs.Common.{◌≡◌, ℕ, zero, suc, ◌+◌, ◌<◌, Bool, true, false, ◌||◌, if◌then◌else◌, Some, List, [], ◌∷◌, ◌++◌, map, length, get_or, refl, sym, ap, subst, ◌∙◌, arith}
+use Rattle.std.proofs.Common.{◌≡◌, ℕ, zero, suc, ◌<◌, Bool, true, false, if◌then◌else◌, Some, List, [], ◌∷◌, ◌++◌, map, length, get_or, refl, sym, ap, ◌∙◌, arith}
 use Rattle.std.specs.List.{list_all, list_any, flat_map, position_or_len}
 use Rattle.std.proofs.lemmas.List.{map-append}
-use Rattle.spv_logic.specs.Terms.{Term, Terms, term, no_terms, terms, term_eq}
+use Rattle.spv_logic.specs.Terms.{Term, Terms, term, no_terms, term_eq}
 use Rattle.spv_logic.proofs.Equality.{term_eq-refl}
 use Rattle.spv_logic.proofs.list.Tests.{left_true, right_true}
 use Rattle.spv_atoms.specs.Atoms.{with_term, with_terms}
@@ -10,7 +10,7 @@ use Rattle.spv_atoms.proofs.Members.{has, or_left, or_right, with_term-known, wi
 use Rattle.spv_proof_rules.specs.Stops.{layers, layers_each}
 use Rattle.spv_listing_values.specs.declared.texts.Text.{Text}
 use Rattle.spv_listing_values.specs.Written.{Written, Writtens, written, no_written, writtens, word}
-use Rattle.spv_listing_values.specs.Places.{Flat, no_flat, flat_in, IsTable, args_at, tree_of, trees, tree, flat_eq, with_flat, entered, all_entered, list_entered, flats_of}
+use Rattle.spv_listing_values.specs.Places.{Flat, IsTable, args_at, tree_of, trees, tree, flat_eq, with_flat, entered, all_entered, list_entered, flats_of}
 use Rattle.spv_listing_values.proofs.Entering.{entering}
 use Rattle.spv_listing_values.proofs.Grown.{is_entered, known_at, length_trees}
 use Rattle.spv_listing_values.proofs.Trees.{tree-node}

@@ -1,8 +1,8 @@
 -- Places of cases that are found from the last node to the first, over plain variables.
-use Rattle.std.proofs.Common.{◌≡◌, ℕ, zero, suc, ◌+◌, ◌-◌, ◌<◌, ◌≤◌, Bool, true, false, ◌&&◌, List, [], ◌∷◌, ◌++◌, map, take, drop, length, get_or, reverse, nat_eq, refl, sym, ap, subst, ◌∙◌, arith}
+use Rattle.std.proofs.Common.{◌≡◌, ℕ, zero, suc, ◌+◌, ◌-◌, ◌<◌, ◌≤◌, true, ◌&&◌, List, [], ◌∷◌, ◌++◌, take, drop, length, get_or, reverse, nat_eq, refl, sym, ap, subst, ◌∙◌, arith}
 use Rattle.std.proofs.lemmas.Bool.{false≢true, eqb-true, eq-eqb}
-use Rattle.std.proofs.lemmas.List.{drop_more, length-map, length-append, length-reverse, length-take-le, reverse-append, take-append-drop, take_all}
-use Rattle.spv_logic.proofs.list.Tests.{left_true, right_true}
+use Rattle.std.proofs.lemmas.List.{drop_more, length-append, length-reverse, length-take-le, reverse-append, take-append-drop}
+use Rattle.spv_logic.proofs.list.Tests.{left_true}
 use Rattle.spv_listing_values.specs.declared.texts.Text.{Text}
 use Rattle.spv_listing_values.specs.declared.data.ProofNode.{ProofNode}
 use Rattle.spv_listing_values.proofs.Numerals.{both_true}

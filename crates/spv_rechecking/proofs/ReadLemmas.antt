@@ -1,15 +1,10 @@
 -- What a listing is read as, over plain variables.
-use Rattle.std.proofs.Common.{◌≡◌, ℕ, zero, suc, ◌+◌, ◌<◌, ◌≤◌, Bool, true, false, ◌&&◌, nat_lt, Option, Some, None, List, [], ◌∷◌, ◌++◌, map, length, fold, get_or, refl, sym, ap, subst, ◌∙◌, append_assoc, arith}
+use Rattle.std.proofs.Common.{◌≡◌, ℕ, ◌<◌, ◌≤◌, Bool, true, false, ◌&&◌, nat_lt, Some, List, [], ◌∷◌, ◌++◌, map, length, fold, refl, sym, ap, subst, ◌∙◌, append_assoc, arith}
 use Rattle.std.specs.List.{list_all, flat_map, filter}
-use Rattle.std.specs.Option.{option_map}
 use Rattle.std.proofs.lemmas.Bool.{lt-ltb, le-ltb}
-use Rattle.std.proofs.lemmas.List.{map-append, length-map}
-use Rattle.spv_logic.specs.declared.names.names.Symbol.{Symbol}
-use Rattle.spv_logic.specs.declared.conditions.TermId.{TermId}
-use Rattle.spv_logic.specs.declared.types.Shape.{Shape}
-use Rattle.spv_logic.specs.declared.types.Decl.{Decl}
+use Rattle.std.proofs.lemmas.List.{map-append}
 use Rattle.spv_logic.specs.declared.operators.Head.{Head}
-use Rattle.spv_logic.specs.Terms.{Term, term, term_eq}
+use Rattle.spv_logic.specs.Terms.{Term, term}
 use Rattle.spv_logic.specs.Conditions.{Sequent}
 use Rattle.spv_logic.proofs.list.Tests.{and_false}
 use Rattle.spv_term.specs.declared.nodes.Node.{Node}
@@ -27,14 +22,14 @@ use Rattle.spv_listing_values.specs.declared.data.Verdict.TheVariants as verdict
 use Rattle.spv_listing_values.specs.declared.data.Claim.{Claim}
 use Rattle.spv_listing_values.specs.declared.texts.Text.{Text}
 use Rattle.spv_listing_values.specs.Written.{Written}
-use Rattle.spv_listing_values.specs.Mapped.{node_at, verdict_at, claim_at, claim_terms}
+use Rattle.spv_listing_values.specs.Mapped.{node_at, verdict_at, claim_terms}
 use Rattle.spv_listing_values.specs.Places.{Flat, trees, tree, flats_of}
 use Rattle.spv_listing_values.specs.Entries.{written_claim}
 use Rattle.spv_listing_values.proofs.Numerals.{both_true}
 use Rattle.spv_rechecking.specs.declared.written_terms.leaves.Leaves.{Leaves}
 use Rattle.spv_rechecking.specs.written_terms.Standing.{Vocabulary, is_leaf, top, stands}
 use Rattle.spv_rechecking.specs.written_terms.Read.{head_read}
-use Rattle.spv_rechecking.specs.Rechecked.{Recheck, leaves, vocabulary, term_of, proof_of, has_node, header_eq, is_about, is_readable, is_same, is_node, known, nodes_of, Reading, Other, TooMany, Reads, reading_by, reading}
+use Rattle.spv_rechecking.specs.Rechecked.{Recheck, leaves, vocabulary, term_of, proof_of, has_node, header_eq, is_about, is_readable, is_same, is_node, known, nodes_of, Other, TooMany, Reads, reading_by, reading}
 use Rattle.spv_rechecking.specs.Made.{vocabulary_in}
 use Rattle.spv_rechecking.proofs.Standing.{all_named_stand, heads_stand, none_named}
 use Rattle.spv_rechecking.proofs.Order.{table_order}

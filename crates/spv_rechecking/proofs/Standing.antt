@@ -1,5 +1,5 @@
 -- Texts that stand for terms: so do their parts, and so do all terms of the table exactly where those that are named do.
-use Rattle.std.proofs.Common.{◌≡◌, ℕ, zero, suc, ◌+◌, ◌<◌, ◌≤◌, Bool, true, false, ◌&&◌, if◌then◌else◌, Option, Some, None, is_some, List, [], ◌∷◌, ◌++◌, map, length, get_or, refl, sym, ap, subst, ◌∙◌, append_assoc, append-nil, true≢false, arith}
+use Rattle.std.proofs.Common.{◌≡◌, ℕ, zero, suc, ◌<◌, Bool, true, false, ◌&&◌, if◌then◌else◌, Option, Some, None, is_some, List, [], ◌∷◌, ◌++◌, map, length, get_or, refl, sym, ap, subst, ◌∙◌, append_assoc, append-nil, true≢false, arith}
 use Rattle.std.specs.List.{list_all, list_any}
 use Rattle.std.specs.Option.{option_map, unwrap_or}
 use Rattle.std.proofs.lemmas.Bool.{false≢true}
@@ -13,10 +13,10 @@ use Rattle.spv_logic.proofs.list.Tests.{left_true, right_true}
 use Rattle.spv_listing_values.specs.declared.texts.Text.{Text}
 use Rattle.spv_listing_values.specs.Written as text
 use Rattle.spv_listing_values.specs.Written.{Written, Writtens, written, no_written, writtens, word}
-use Rattle.spv_listing_values.specs.Places.{Flat, no_flat, flat_in, IsTable, args_at, tree_of, trees_behind, trees, tree, flat_eq, with_flat, place_of, Entered, entered, all_entered, list_entered, flats_of}
+use Rattle.spv_listing_values.specs.Places.{Flat, IsTable, args_at, tree_of, trees_behind, trees, tree, flat_eq, with_flat, entered, all_entered, list_entered, flats_of}
 use Rattle.spv_listing_values.specs.Waiting.{AreIn}
 use Rattle.spv_listing_values.proofs.Entering.{entering}
-use Rattle.spv_listing_values.proofs.Grown.{Grown, IsEntered, AreEntered, is_entered, placed, grown_none, grown_twice, in_more, tree_stays, length_trees}
+use Rattle.spv_listing_values.proofs.Grown.{Grown, AreEntered, is_entered, grown_none, grown_twice, in_more, tree_stays, length_trees}
 use Rattle.spv_listing_values.proofs.Numerals.{both_true}
 use Rattle.spv_rechecking.specs.written_terms.Standing.{Vocabulary, top, head_for, over, in_front, heads_over, all_heads_over, may_stand, is_term, if_term, term_for, stands}
 use Rattle.spv_rechecking.specs.written_terms.Read.{head_read}

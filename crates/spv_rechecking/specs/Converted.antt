@@ -1,5 +1,5 @@
 -- A proof of a listing as one over an arena.
-use Rattle.std.specs.Prelude.{◌≡◌, ◌<◌, ℕ, Bool, true, false, List, [], ◌∷◌, map, length, Option, Some, None, IsTrue}
+use Rattle.std.specs.Prelude.{◌≡◌, ℕ, true, false, List, map, Option, Some, None}
 use Rattle.std.specs.List.{list_all, AllByRecursion}
 use Rattle.spv_logic.specs.declared.conditions.TermId.{TermId}
 use Rattle.spv_logic.specs.declared.operators.Head.{Head}
@@ -19,7 +19,7 @@ use Rattle.spv_listing_values.specs.declared.data.ProofNode.{ProofNode}
 use Rattle.spv_listing_values.specs.Mapped.{step_at, node_at, step_terms, split_terms}
 use Rattle.spv_listing_values.specs.Places.{AreBefore}
 use Rattle.spv_rechecking.specs.Rechecked.{is_relation, is_step, is_node}
-use Rattle.spv_rechecking.specs.Listed.{relation_at, listed_step, listed_node, listed_nodes}
+use Rattle.spv_rechecking.specs.Listed.{relation_at, listed_step, listed_nodes}
 use Rattle.spv_rechecking.specs.Made.{image_at}
 
 -- what stands at the place of a text

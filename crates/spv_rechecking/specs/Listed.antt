@@ -1,7 +1,6 @@
 -- A proof over an arena as a listing says it.
-use Rattle.std.specs.Prelude.{ℕ, Bool, true, false, List, map, length, Option}
+use Rattle.std.specs.Prelude.{ℕ, true, false, List, map, length}
 use Rattle.std.specs.Option.{option_map}
-use Rattle.spv_logic.specs.declared.names.names.Symbol.{Symbol}
 use Rattle.spv_logic.specs.declared.conditions.TermId.{TermId}
 use Rattle.spv_logic.specs.Terms.{Term}
 use Rattle.spv_logic.specs.Formulas.{negation, equation}

@@ -1,12 +1,11 @@
 -- The terms of texts, made in an arena.
-use Rattle.std.specs.Prelude.{◌≡◌, ◌<◌, ℕ, List, [], ◌∷◌, map, length, Some, Option, slice_index_or}
+use Rattle.std.specs.Prelude.{◌≡◌, ℕ, List, map, length, Some, Option, slice_index_or}
 use Rattle.spv_logic.specs.declared.names.names.Symbol.{Symbol}
 use Rattle.spv_logic.specs.declared.conditions.TermId.{TermId}
 use Rattle.spv_logic.specs.declared.operators.Head.{Head}
 use Rattle.spv_term.specs.Arena.{Arena, AllBelow, tree}
 use Rattle.spv_listing_values.specs.declared.texts.Text.{Text}
 use Rattle.spv_listing_values.specs.Written.{Written}
-use Rattle.spv_listing_values.specs.Places.{Flat, trees}
 use Rattle.spv_rechecking.specs.declared.written_terms.leaves.Leaves.{Leaves}
 use Rattle.spv_rechecking.specs.written_terms.Standing.{Vocabulary}
 use Rattle.spv_rechecking.specs.written_terms.Words.{vocabulary}

@@ -1,6 +1,5 @@
 -- The places of the cases of a proof's nodes.
-use Rattle.std.specs.Prelude.{◌≡◌, ℕ, zero, suc, ◌+◌, Bool, true, false, ◌&&◌, List, [], ◌∷◌, ◌++◌, map, length, Option, Some, None, nat_eq, nat_lt}
-use Rattle.spv_listing_values.specs.declared.texts.Text.{Text}
+use Rattle.std.specs.Prelude.{ℕ, zero, suc, ◌+◌, Bool, true, false, ◌&&◌, List, [], ◌∷◌, ◌++◌, map, length, Option, Some, None, nat_eq, nat_lt}
 use Rattle.spv_listing_values.specs.declared.data.Split.{Split}
 use Rattle.spv_listing_values.specs.declared.data.ProofNode.{ProofNode}
 

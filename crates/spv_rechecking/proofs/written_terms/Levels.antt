@@ -6,20 +6,19 @@ use Rattle.std.proofs.lemmas.List.{get_or-take, length-take-le, length-map, take
 use Rattle.spv_logic.specs.declared.types.Sort.{Sort}
 use Rattle.spv_logic.specs.declared.types.Sort.TheVariants as sort
 use Rattle.spv_logic.specs.declared.operators.Head.{Head}
-use Rattle.spv_logic.specs.declared.operators.Head.TheVariants.{True}
 use Rattle.spv_logic.specs.Terms.{Term, Terms, term, no_terms, terms, heads_pass, all_heads_pass}
 use Rattle.spv_logic.specs.Sorts.{term_sort, term_sorts, with_sorts, sort_before, result_sort}
-use Rattle.spv_logic.proofs.list.Tests.{left_true, right_true}
+use Rattle.spv_logic.proofs.list.Tests.{right_true}
 use Rattle.spv_listing_values.specs.declared.texts.Text.{Text}
 use Rattle.spv_listing_values.specs.Written as text
 use Rattle.spv_listing_values.specs.Written.{Written, Writtens, written, no_written, writtens, word}
-use Rattle.spv_listing_values.specs.Places.{Flat, no_flat, flat_in, AreBefore, AreOrdered, IsTable, args_at, trees, tree, at}
+use Rattle.spv_listing_values.specs.Places.{Flat, no_flat, flat_in, AreBefore, AreOrdered, IsTable, args_at, trees, at}
 use Rattle.spv_listing_values.proofs.Grown.{length_trees}
 use Rattle.spv_listing_values.proofs.Numerals.{both_true}
 use Rattle.spv_listing_values.proofs.Trees.{tree-node, before_more}
 use Rattle.spv_rechecking.specs.written_terms.Standing.{Vocabulary, top, head_for, over, in_front, heads_over, all_heads_over, may_stand, sort_over, is_term, if_term, term_for, stands}
 use Rattle.spv_rechecking.specs.declared.written_terms.reading.One.{One}
-use Rattle.spv_rechecking.specs.written_terms.Read.{head_read, sort_read, sorts_of, AreRead, HeadsAre, IsOne, IsOneOver}
+use Rattle.spv_rechecking.specs.written_terms.Read.{head_read, sort_read, sorts_of, AreRead, IsOne, IsOneOver}
 use Rattle.spv_rechecking.proofs.written_terms.Lists.{mapped-at, mapped-more, all-fails}
 
 -- ---- one text

@@ -1,5 +1,5 @@
 -- What is read of terms, one behind the other.
-use Rattle.std.specs.Prelude.{◌≡◌, Bool, false, List, map, Option, Some, None}
+use Rattle.std.specs.Prelude.{◌≡◌, false, List, map, Option, Some, None}
 use Rattle.std.specs.List.{list_all}
 use Rattle.std.specs.Option.{option_map, option_and_then}
 use Rattle.spv_logic.specs.declared.types.Sort.{Sort}

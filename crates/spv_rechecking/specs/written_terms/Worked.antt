@@ -1,6 +1,5 @@
 -- Small terms, read by hand.
-use Rattle.std.specs.Prelude.{ℕ, List, [], ◌∷◌, ◌++◌, pos, negsuc, Option, Some, None, codes}
-use Rattle.spv_logic.specs.declared.names.names.Symbol.{Symbol}
+use Rattle.std.specs.Prelude.{ℕ, List, [], ◌∷◌, negsuc, None, codes}
 use Rattle.spv_logic.specs.declared.types.Sort.TheVariants as sort
 use Rattle.spv_logic.specs.declared.operators.Head.TheVariants as head
 use Rattle.spv_logic.specs.Terms.{Term, term, no_terms, terms}

@@ -1,4 +1,4 @@
-use Rattle.std.proofs.Common.{take, ◌≤◌, length}
+use Rattle.std.proofs.Common.{take}
 use Rattle.spv_listing_values.specs.Places.{trees}
 use Rattle.spv_rechecking.specs.written_terms.Words.{vocabulary}
 use Rattle.spv_rechecking.specs.written_terms.Read.{AreRead}
