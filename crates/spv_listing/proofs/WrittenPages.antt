@@ -37,7 +37,7 @@ use Rattle.spv_listing_values.specs.declared.data.Limit.TheVariants as listed_li
 use Rattle.spv_listing.specs.printed.Printed.{line, fraction_text, term_text}
 use Rattle.spv_listing.specs.verdict_pages.ProofLines.{blank_term}
 use Rattle.spv_listing.specs.verdict_pages.VerdictLines.{branch_line, value_line, instance_line, member_count, operation_text, limit_text, with_truth, wanted_proof, verdict_lines, decided_lines}
-use Rattle.spv_listing.specs.verdict_pages.Totals.{proves, falsifies, gives_up, is_proved, is_unproved, is_given_up, counts_line, result_text, total_lines}
+use Rattle.spv_listing.specs.verdict_pages.Totals.{proves, falsifies, gives_up, is_proved, is_unproved, is_given_up, counted, counts_line, result_text, total_lines}
 use Rattle.spv_listing.specs.Page.{kind_word, heading, given_line, goal_line, condition_lines, blocks, verdicts_page}
 use Rattle.spv_listing.specs.Listings.{Writing, nodes_of, branch_of, value_of, instance_of, limit_of, verdict_of, writing, claim_of, claims_of, listing_in, IsListedLimit, IsListedVerdict, AreListed}
 use Rattle.spv_listing.proofs.WrittenProofs.{line_written, number_written, one_written, terms_written, blank_written, proof_written}
@@ -156,17 +156,41 @@ heading_text : (n routine word line : List ℕ) → codes "CONDITION " ++ n ++ c
     ≡ codes "CONDITION " ++ (n ++ (32 ∷ (routine ++ (32 ∷ (word ++ (codes " LINE " ++ line))))))
 heading_text n routine word line = simp (append_assoc) refl
 
-total_text : (p u g : List ℕ) → codes "TOTAL " ++ p ++ codes " PROVED " ++ u ++ codes " UNPROVED " ++ g ++ codes " GAVE UP"
-    ≡ codes "TOTAL " ++ (p ++ (codes " PROVED " ++ (u ++ (codes " UNPROVED " ++ (g ++ codes " GAVE UP")))))
-total_text p u g = simp (append_assoc) refl
+-- the word for a verdict that fails
+abbrev failing : List ℕ
+failing = codes "UNPROVED"
 
-total_written : (p u g : ℕ) → counts_line p u g ≡ line_bytes (pages.total_line p u g)
+-- a count, and behind it what it counts, with further text behind them
+counted_behind : (n word behind : List ℕ) → (codes " " ++ n ++ codes " " ++ word) ++ behind ≡ 32 ∷ (n ++ (32 ∷ (word ++ behind)))
+counted_behind n word behind = ap (λ (l : List ℕ). 32 ∷ l) (append_assoc (n ++ codes " ") word behind ∙ append_assoc n (codes " ") (word ++ behind))
+
+total_text : (p u g : List ℕ) → codes "TOTAL" ++ (codes " " ++ p ++ codes " " ++ codes "PROVED") ++ (codes " " ++ u ++ codes " " ++ failing) ++ (codes " " ++ g ++ codes " " ++ codes "GAVE UP")
+    ≡ codes "TOTAL " ++ (p ++ (codes " PROVED " ++ (u ++ (codes " UNPROVED " ++ (g ++ codes " GAVE UP")))))
+total_text p u g =
+    append_assoc (codes "TOTAL" ++ proved) unproved given_up
+    ∙ (append_assoc (codes "TOTAL") proved (unproved ++ given_up)
+    ∙ ap (λ (l : List ℕ). codes "TOTAL" ++ l)
+    (counted_behind p (codes "PROVED") (unproved ++ given_up)
+    ∙ ap (λ (l : List ℕ). 32 ∷ (p ++ (32 ∷ (codes "PROVED" ++ l))))
+    (counted_behind u failing given_up
+    ∙ ap (λ (l : List ℕ). 32 ∷ (u ++ (32 ∷ (failing ++ l)))) (ap (λ (l : List ℕ). 32 ∷ l) (append_assoc g (codes " ") (codes "GAVE UP"))))))
+  where
+    proved : List ℕ
+    proved = codes " " ++ p ++ codes " " ++ codes "PROVED"
+
+    unproved : List ℕ
+    unproved = codes " " ++ u ++ codes " " ++ failing
+
+    given_up : List ℕ
+    given_up = codes " " ++ g ++ codes " " ++ codes "GAVE UP"
+
+total_written : (p u g : ℕ) → counts_line failing p u g ≡ line_bytes (pages.total_line p u g)
 total_written p u g =
-    line_written (codes "TOTAL") (codes "TOTAL " ++ decimal p ++ codes " PROVED " ++ decimal u ++ codes " UNPROVED " ++ decimal g ++ codes " GAVE UP")
+    line_written (codes "TOTAL") (codes "TOTAL" ++ counted p (codes "PROVED") ++ counted u failing ++ counted g (codes "GAVE UP"))
     (lines.number p ∷ listed.word (codes "PROVED") ∷ lines.number u ∷ listed.word (codes "UNPROVED") ∷ lines.number g ∷ listed.word (codes "GAVE") ∷ listed.word (codes "UP") ∷ [])
     (total_text (decimal p) (decimal u) (decimal g))
 
-result_written : (u g : ℕ) → line (result_text u g) ≡ line_bytes (pages.result_line u g)
+result_written : (u g : ℕ) → line (result_text failing u g) ≡ line_bytes (pages.result_line u g)
 result_written zero zero = refl
 result_written zero (suc g) = refl
 result_written (suc u) g = refl
@@ -261,13 +285,13 @@ module _ (proofs : Bool) (named : ProgramNames) where
 
   end_written : (cs : List Condition) (ds : List Decided) → AreListed cs ds → total_lines ds ≡ lines_bytes (pages.end_lines (claims_of proofs named cs ds))
   end_written cs ds are =
-      ap (λ (n : ℕ). counts_line n (count_by is_unproved ds) (count_by is_given_up ds) ++ line (result_text (count_by is_unproved ds) (count_by is_given_up ds)))
+      ap (λ (n : ℕ). counts_line failing n (count_by is_unproved ds) (count_by is_given_up ds) ++ line (result_text failing (count_by is_unproved ds) (count_by is_given_up ds)))
       (count_same is_proved pages.is_proved (λ c d is. proved_same c d d.verdict is) cs ds are)
-      ∙ (ap (λ (n : ℕ). counts_line proved n (count_by is_given_up ds) ++ line (result_text n (count_by is_given_up ds)))
+      ∙ (ap (λ (n : ℕ). counts_line failing proved n (count_by is_given_up ds) ++ line (result_text failing n (count_by is_given_up ds)))
       (count_same is_unproved pages.is_unproved (λ c d is. unproved_same c d d.verdict is) cs ds are)
-      ∙ (ap (λ (n : ℕ). counts_line proved unproved n ++ line (result_text unproved n))
+      ∙ (ap (λ (n : ℕ). counts_line failing proved unproved n ++ line (result_text failing unproved n))
       (count_same is_given_up pages.is_given_up (λ c d is. given_up_same c d d.verdict is) cs ds are)
-      ∙ (ap (λ (l : List ℕ). l ++ line (result_text unproved given_up)) (total_written proved unproved given_up)
+      ∙ (ap (λ (l : List ℕ). l ++ line (result_text failing unproved given_up)) (total_written proved unproved given_up)
       ∙ ap (λ (l : List ℕ). line_bytes (pages.total_line proved unproved given_up) ++ l)
       (result_written unproved given_up ∙ sym (append-nil (line_bytes (pages.result_line unproved given_up)))))))
     where

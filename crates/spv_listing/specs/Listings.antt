@@ -1,13 +1,9 @@
 -- What the page of a report says, as a listing.
-use Rattle.std.specs.Prelude.{◌≡◌, ℕ, ◌-◌, Bool, true, false, List, [], ◌∷◌, map, length, Option, Some, None, codes, if◌then◌else◌, IsTrue}
+use Rattle.std.specs.Prelude.{◌≡◌, ℕ, ◌-◌, Bool, true, false, List, [], ◌∷◌, map, length, IsTrue}
 use Rattle.std.specs.Option.{option_map}
 use Rattle.spv_whole.specs.Fraction.{Fraction}
-use Rattle.spv_logic.specs.declared.names.names.Symbol.{Symbol}
 use Rattle.spv_logic.specs.declared.conditions.TermId.{TermId}
-use Rattle.spv_logic.specs.declared.conditions.Origin.{Origin}
-use Rattle.spv_logic.specs.declared.operators.Head.{Head}
-use Rattle.spv_logic.specs.declared.operators.Head.TheVariants.{App, Field, Put, Nil}
-use Rattle.spv_logic.specs.Terms.{Term, Terms, term, no_terms, terms}
+use Rattle.spv_logic.specs.Terms.{Term}
 use Rattle.spv_logic.specs.Conditions.{Condition}
 use Rattle.spv_term.specs.Arena.{tree}
 use Rattle.spv_atoms.specs.declared.proofs.Relation.{Relation}
@@ -28,10 +24,8 @@ use Rattle.spv_rechecking.specs.written_terms.Printing.{written_of}
 use Rattle.spv_reports.specs.Reports.{Findings, IsReport}
 use Rattle.spv_reports.specs.declared.mode.Mode.{Mode}
 use Rattle.spv_reports.specs.declared.mode.Mode.TheVariants.{Verify, Simplify, Check, Conditions, Drill}
-use Rattle.spv_listing_values.specs.Written.{Alone, Applied, Written, Writtens, written, no_written, writtens}
-use Rattle.spv_listing_values.specs.Written as listed
+use Rattle.spv_listing_values.specs.Written.{Written}
 use Rattle.spv_listing_values.specs.Page as listings
-use Rattle.spv_listing_values.specs.declared.data.Header.{Header}
 use Rattle.spv_listing_values.specs.declared.data.Step.TheVariants as listed_step
 use Rattle.spv_listing_values.specs.declared.data.Step as listed_steps
 use Rattle.spv_listing_values.specs.declared.data.Split as listed_splits
@@ -42,7 +36,7 @@ use Rattle.spv_listing_values.specs.declared.data.Limit as listed_limits
 use Rattle.spv_listing_values.specs.declared.data.Verdict.TheVariants as listed_verdict
 use Rattle.spv_listing_values.specs.declared.data.Verdict as listed_verdicts
 use Rattle.spv_listing_values.specs.declared.data.Claim.{Claim}
-use Rattle.spv_listing.specs.printed.Printed.{name_in, title_in, word, head_text, stands_alone}
+use Rattle.spv_listing.specs.printed.Printed.{name_in}
 use Rattle.spv_listing.specs.verdict_pages.ProofLines.{relation_at, stated_at}
 use Rattle.spv_listing.specs.verdict_pages.VerdictLines.{with_truth, member_count}
 use Rattle.spv_listing.specs.Page.{page}

@@ -252,13 +252,8 @@ fn push_checked_lines(
 {
     for place in 0..conditions.len() {
         let number = place as u64 + 1;
-        push_checked_line(
-            out,
-            named,
-            number,
-            conditions[place].origin,
-            &verdicts[place],
-        )?;
+        let decided = &verdicts[place];
+        push_checked_line(out, named, number, conditions[place].origin, decided)?;
     }
     Ok(())
 }

@@ -1,18 +1,18 @@
 -- How many splits a tree has is how many there are among its nodes.
-use Rattle.std.proofs.Common.{◌≡◌, ℕ, zero, suc, ◌+◌, true, Option, Result, Ok, Err, OnOk, List, [], ◌∷◌, ◌++◌, take, drop, length, codes, decimal, refl, sym, ap, ◌∙◌, subst, arith}
+use Rattle.std.proofs.Common.{◌≡◌, ℕ, zero, ◌+◌, true, Option, Result, Ok, Err, OnOk, List, [], ◌∷◌, ◌++◌, length, codes, decimal, refl, sym, ap, ◌∙◌, subst, arith}
 use Rattle.std.specs.Prelude.{cond}
 use Rattle.std.proofs.lemmas.List.Sums.{sum_by-cons}
 use Rattle.spv_logic.specs.declared.names.names.Symbol.{Symbol}
 use Rattle.spv_logic.specs.declared.conditions.TermId.{TermId}
 use Rattle.spv_logic.specs.Terms.{Term}
 use Rattle.spv_term.specs.Arena.{Arena, tree}
-use Rattle.spv_models.specs.split_trees.Trees.{Tree, splits, splits_all}
+use Rattle.spv_models.specs.split_trees.Trees.{Tree, splits}
 use Rattle.spv_verdicts.specs.declared.answers.trees.SplitNode.{SplitNode}
 use Rattle.spv_verdicts.specs.declared.answers.trees.SplitNode.TheVariants as node
 use Rattle.spv_verdicts.specs.declared.answers.verdicts.Limit.{Limit}
 use Rattle.spv_verdicts.specs.declared.answers.verdicts.Limit.TheVariants as limit
 use Rattle.spv_verdicts.specs.Verdicts.{Round}
-use Rattle.spv_verdicts.specs.answers.Nodes.{is_split_tree, joined, trees_at, first_tree, tree_at}
+use Rattle.spv_verdicts.specs.answers.Nodes.{is_split_tree, trees_at, first_tree, tree_at}
 use Rattle.spv_verdicts.specs.answers.Views.{limit_in}
 use Rattle.spv_verdicts.proofs.answers.OneTree.{one_tree}
 use Rattle.spv_verdicts.proofs.answers.SplitCounts.{splits_in, one_split_more}
