@@ -33,10 +33,10 @@ use std::alloc::{AllocError, Global};
 /// How a run ended.
 #[derive(Drop)]
 pub struct Ran {
-    /// The status: 0 where every condition is proved, 1 where one is unproved, 2 where none is and the
-    /// search gave up on one, 3 where the text is refused, 4 where it cannot be read, 5 where the output
-    /// cannot be written, 6 for want of memory, 7 where the words are no command, 8 where conditions alone
-    /// were asked for.
+    /// The status: 0 where every condition is proved, 1 where one is unproved or, in the mode `Check`, its
+    /// proof is not accepted, 2 where none is and the search gave up on one, 3 where a text is refused, 4
+    /// where one cannot be read, 5 where the output cannot be written, 6 for want of memory, 7 where the
+    /// words are no command, 8 where conditions alone were asked for.
     pub status: u8,
     /// The report, where a page was due.
     pub report: Option<Report>,
@@ -149,8 +149,8 @@ fn attempt<T: Texts, K: Sink>(alloc: Global, words: &[String], texts: &mut T, si
 }
 
 /// Runs the command that these words are, of which the first is the program's name: reads its files, makes the conditions of its program,
-/// decides them where that is asked, and writes the page, or one line that says why there is none. Nothing is written until all of the
-/// output is made, and then a line at a time. No member of the world is run: it says for which meaning of the symbols the program is
+/// decides them where that is asked, or checks the proofs of them that a listing has, and writes the page, or one line that says why there
+/// is none. Nothing is written until all of the output is made, and then a line at a time. No member of the world is run: it says for which meaning of the symbols the program is
 /// claimed to be correct.
 pub fn run<W: World, T: Texts, K: Sink>(
     alloc: Global,
