@@ -136,9 +136,11 @@ module _ (m : Mode) (texts : List (List ℕ)) where
   pub made_source : (load : Load) (limits : Limits) (text : List ℕ) → m ≡ mode.Drill load limits → text ≡ drill_text load → sources_in m texts ≡ Some (ruled_by text None)
   made_source load limits text is same = ap (λ (k : Mode). sources_in k texts) is ∙ ap (λ (t : List ℕ). Some (ruled_by t None)) (sym same)
 
-  pub checked_source : (text bytes : List ℕ) → m ≡ mode.Check → slice_get texts 0 ≡ Some text → slice_get texts 1 ≡ Some bytes
-      → sources_in m texts ≡ Some (record { text = text; rules = slice_get texts 2; listing = Some bytes })
-  checked_source text bytes is first second = ap (λ (k : Mode). sources_in k texts) is ∙ by_texts texts first second
+  pub checked_source : (text bytes : List ℕ) (rules : Option (List ℕ)) → m ≡ mode.Check → slice_get texts 0 ≡ Some text → slice_get texts 1 ≡ Some bytes → rules ≡ slice_get texts 2
+      → sources_in m texts ≡ Some (record { text = text; rules = rules; listing = Some bytes })
+  checked_source text bytes rules is first second third =
+      ap (λ (k : Mode). sources_in k texts) is
+      ∙ (by_texts texts first second ∙ ap (λ (o : Option (List ℕ)). Some (record { text = text; rules = o; listing = Some bytes })) (sym third))
     where
       by_texts : (l : List (List ℕ)) → slice_get l 0 ≡ Some text → slice_get l 1 ≡ Some bytes → sources_in mode.Check l ≡ Some (record { text = text; rules = slice_get l 2; listing = Some bytes })
       by_texts [] f s = absurd (none-some _ f)
@@ -146,22 +148,24 @@ module _ (m : Mode) (texts : List (List ℕ)) where
       by_texts (t ∷ b ∷ l) f s = (λ i. Some (record { text = same_Some t text f i; rules = slice_get l 0; listing = s i }))
 
   -- without a listing
-  by_first : (text : List ℕ) (k : Mode) → ((t : List ℕ) (l : List (List ℕ)) → sources_in k (t ∷ l) ≡ Some (ruled_by t (slice_get l 0))) → m ≡ k → slice_get texts 0 ≡ Some text
-      → sources_in m texts ≡ Some (ruled_by text (slice_get texts 1))
-  by_first text k plain is first = ap (λ (x : Mode). sources_in x texts) is ∙ by_texts texts first
-    where
-      by_texts : (l : List (List ℕ)) → slice_get l 0 ≡ Some text → sources_in k l ≡ Some (ruled_by text (slice_get l 1))
-      by_texts [] f = absurd (none-some _ f)
-      by_texts (t ∷ l) f = plain t l ∙ ap (λ (x : List ℕ). Some (ruled_by x (slice_get l 0))) (same_Some t text f)
+  module _ (text : List ℕ) (rules : Option (List ℕ)) where
+    by_first : (k : Mode) → ((t : List ℕ) (l : List (List ℕ)) → sources_in k (t ∷ l) ≡ Some (ruled_by t (slice_get l 0))) → m ≡ k → slice_get texts 0 ≡ Some text → rules ≡ slice_get texts 1
+        → sources_in m texts ≡ Some (ruled_by text rules)
+    by_first k plain is first second =
+        ap (λ (x : Mode). sources_in x texts) is ∙ (by_texts texts first ∙ ap (λ (o : Option (List ℕ)). Some (ruled_by text o)) (sym second))
+      where
+        by_texts : (l : List (List ℕ)) → slice_get l 0 ≡ Some text → sources_in k l ≡ Some (ruled_by text (slice_get l 1))
+        by_texts [] f = absurd (none-some _ f)
+        by_texts (t ∷ l) f = plain t l ∙ ap (λ (x : List ℕ). Some (ruled_by x (slice_get l 0))) (same_Some t text f)
 
-  pub verified_source : (limits : Limits) (text : List ℕ) → m ≡ mode.Verify limits → slice_get texts 0 ≡ Some text → sources_in m texts ≡ Some (ruled_by text (slice_get texts 1))
-  verified_source limits text is first = by_first text (mode.Verify limits) (λ t l. refl) is first
+    pub verified_source : (limits : Limits) → m ≡ mode.Verify limits → slice_get texts 0 ≡ Some text → rules ≡ slice_get texts 1 → sources_in m texts ≡ Some (ruled_by text rules)
+    verified_source limits = by_first (mode.Verify limits) (λ t l. refl)
 
-  pub simplified_source : (limits : Limits) (text : List ℕ) → m ≡ mode.Simplify limits → slice_get texts 0 ≡ Some text → sources_in m texts ≡ Some (ruled_by text (slice_get texts 1))
-  simplified_source limits text is first = by_first text (mode.Simplify limits) (λ t l. refl) is first
+    pub simplified_source : (limits : Limits) → m ≡ mode.Simplify limits → slice_get texts 0 ≡ Some text → rules ≡ slice_get texts 1 → sources_in m texts ≡ Some (ruled_by text rules)
+    simplified_source limits = by_first (mode.Simplify limits) (λ t l. refl)
 
-  pub listed_source : (text : List ℕ) → m ≡ mode.Conditions → slice_get texts 0 ≡ Some text → sources_in m texts ≡ Some (ruled_by text (slice_get texts 1))
-  listed_source text is first = by_first text mode.Conditions (λ t l. refl) is first
+    pub listed_source : m ≡ mode.Conditions → slice_get texts 0 ≡ Some text → rules ≡ slice_get texts 1 → sources_in m texts ≡ Some (ruled_by text rules)
+    listed_source = by_first mode.Conditions (λ t l. refl)
 
 pub found_result : (o : Reading) (c : Command) (asked files : List (Bor (List ℕ))) (g : Gathered) (read : Vec (Vec ℕ Global) Global) (slice : List (Vec ℕ Global)) (result : Result Found AllocError)
     → c.files ≡ map (λ file. file.now) files → HasGathered o (map (λ file. file.now) asked) g → asked ≡ files → g ≡ Texts read → slice ≡ read.items
