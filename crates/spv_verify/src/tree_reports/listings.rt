@@ -1,8 +1,6 @@
 // What a listing says that is handed in.
 
-ghost use Rattle.std.specs.Prelude.{◌≤◌, length, option_copied, IfErr, IfOk, IsTrue, Ok, Some};
-ghost use Rattle.spv_listing_values.specs.Forms.{is_listing};
-ghost use Rattle.spv_listing_values.specs.Page.{page};
+ghost use Rattle.std.specs.Prelude.{option_copied, IfErr, IfOk};
 ghost use Rattle.spv_verify.specs.tree_reports.Listings.{IsBytesCause, IsListed, IsListFault, IsListingCause, IsListingOf};
 
 use crate::refused::{TextFault, of_listing};

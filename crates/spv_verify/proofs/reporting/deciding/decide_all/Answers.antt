@@ -1,9 +1,10 @@
-use Rattle.std.proofs.Common.{◌≡◌, ◌+◌, sym, subst, take, suc, arith}
+use Rattle.std.proofs.Common.{◌≡◌, ◌+◌, List, sym, subst, take, suc, arith}
 use Rattle.spv_term.specs.declared.nodes.Condition.{Condition}
 use Rattle.spv_assign.specs.Conditions.{IsIn}
 use Rattle.spv_proof_rules.specs.Stand.{question}
 use Rattle.spv_models.specs.leaf_models.Laws.{AreFormulas}
 use Rattle.spv_models.specs.leaf_models.Tables.{formulas_of}
+use Rattle.spv_verdicts.specs.declared.answers.verdicts.Decided.{Decided}
 use Rattle.spv_rules.specs.RuleSets.{rules_in}
 use Rattle.spv_reports.specs.Reports.{AreVerdicts}
 use Rattle.spv_verify.proofs.reporting.Turns.{in_item, formulas_item, verdicts_more}
@@ -28,4 +29,4 @@ loop-condition-preserved c =
     let more = verdicts_more (rules_in c.args.rules.now) c.args.terms.now c.args.limits.now c.args.conditions.now k c.loop-condition.verdicts.items c.condition-item.result c.in_ok-decide_under.field-0 c.loop-condition-test.true c.condition-item.is c.loop-condition.invariant c.in_ok-decide_under.ensures in
     let next : suc k ≡ k + 1 = grind (arith) in
     subst (λ n. AreVerdicts (rules_in c.args.rules.now) c.args.terms.now c.args.limits.now (take n c.args.conditions.now) c.push.new.self.items) next
-    (subst (AreVerdicts (rules_in c.args.rules.now) c.args.terms.now c.args.limits.now (take (suc k) c.args.conditions.now)) (sym c.in_ok-push.ensures.items) more)
+    (subst (AreVerdicts (rules_in c.args.rules.now) c.args.terms.now c.args.limits.now (take (suc k) c.args.conditions.now)) (sym {A = List Decided} c.in_ok-push.ensures.items) more)

@@ -1,9 +1,10 @@
-use Rattle.std.proofs.Common.{◌≡◌, ◌+◌, Option, sym, subst, take, suc, arith}
+use Rattle.std.proofs.Common.{◌≡◌, ◌+◌, List, Option, sym, subst, take, suc, arith}
 use Rattle.spv_term.specs.declared.nodes.Condition.{Condition}
 use Rattle.spv_assign.specs.Conditions.{IsIn}
 use Rattle.spv_proof_rules.specs.Stand.{question}
 use Rattle.spv_models.specs.leaf_models.Laws.{AreFormulas}
 use Rattle.spv_models.specs.leaf_models.Tables.{formulas_of}
+use Rattle.spv_verdicts.specs.declared.answers.verdicts.Decided.{Decided}
 use Rattle.spv_rules.specs.RuleSets.{rules_in}
 use Rattle.spv_listing_values.specs.declared.data.Claim.{Claim}
 use Rattle.spv_listing_values.specs.Written.{Written}
@@ -36,4 +37,4 @@ loop-place-preserved c =
     let more = rechecked_more rules named a entries cs k c.loop-place.verdicts.items condition verdict c.loop-place-test.true c.index-conditions-place.is c.loop-place.invariant checked in
     let next : suc k ≡ k + 1 = grind (arith) in
     subst (λ n. AreRechecked rules named a entries (take n cs) c.push.new.self.items) next
-    (subst (AreRechecked rules named a entries (take (suc k) cs)) (sym c.in_ok-push.ensures.items) more)
+    (subst (AreRechecked rules named a entries (take (suc k) cs)) (sym {A = List Decided} c.in_ok-push.ensures.items) more)
