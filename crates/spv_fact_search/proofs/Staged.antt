@@ -27,6 +27,19 @@ is-true b e = cc
 pub own-copy : (a : Arena) (c : Condition) (limit : ℕ) (k : Copied) → IsCopy a c limit k → IsOwn a c k.terms k.condition
 own-copy a c limit k is = record { claim = is.condition; shapes = is.shapes; decls = is.decls }
 
+-- a copy of its own of one that is of its own is one too
+own-own : (a : Arena) (c : Condition) (b : Arena) (d : Condition) (e : Arena) (f : Condition) → IsOwn a c b d → IsOwn b d e f → IsOwn a c e f
+own-own a c b d e f first second = record {
+  claim = record {
+    given_in = second.claim.given_in;
+    goal_in = second.claim.goal_in;
+    claim = second.claim.claim ∙ first.claim.claim;
+    origin = second.claim.origin ∙ first.claim.origin;
+  };
+  shapes = second.shapes ∙ first.shapes;
+  decls = second.decls ∙ first.decls;
+}
+
 pub own-grows : (a : Arena) (c : Condition) (old new : Arena) (d : Condition) → Extends old new → IsOwn a c old d → IsOwn a c new d
 own-grows a c old new d more is = record {
   claim = record {
@@ -64,9 +77,9 @@ module _ (old new : Stage) (grows : StageGrows old new) where
   pub grown-goal : old.condition.goal.0 < length old.terms.nodes → new.condition.goal.0 < length new.terms.nodes
   grown-goal h = subst (λ (c : Condition). c.goal.0 < length new.terms.nodes) (sym grows.condition) (below-Extends grows.terms old.condition.goal.0 h)
 
-  pub shown-of : (u : Unproved) → IsUnprovedBy new.terms new.condition u → (a : Arena) (c : Condition) (limits : Limits) → IsOwn a c old.terms old.condition
-      → IsDecided a c limits (record { terms = new.terms; condition = new.condition; verdict = verdict.Unproved u })
-  shown-of u found a c limits is = unproved-own a c limits new.terms new.condition u (own-stage a c is) found
+  pub shown-of : (b : Arena) (d : Condition) (u : Unproved) → IsOwn new.terms new.condition b d → IsUnprovedBy b d u → (a : Arena) (c : Condition) (limits : Limits) → IsOwn a c old.terms old.condition
+      → IsDecided a c limits (record { terms = b; condition = d; verdict = verdict.Unproved u })
+  shown-of b d u own found a c limits is = unproved-own a c limits b d u (own-own a c new.terms new.condition b d (own-stage a c is) own) found
 
 pub proved-of : (old mid new : Stage) → StageGrows old mid → StageGrows mid new → (nodes : List ProofNode) → IsProof mid.terms mid.condition nodes → (a : Arena) (c : Condition) (limits : Limits) → IsOwn a c old.terms old.condition
     → IsDecided a c limits (record { terms = new.terms; condition = new.condition; verdict = verdict.Proved nodes })

@@ -12,7 +12,7 @@ use std::alloc::{AllocError, Global};
 const MOST_PAIRS: usize = 1_000;
 
 // Of how many applications a part is looked for at most.
-const MOST_APPLICATIONS: usize = 5_000;
+const MOST_APPLICATIONS: usize = 20_000;
 
 // Whether a term is an application of a head to terms.
 fn is_application(terms: &Terms, t: TermId) -> bool {
@@ -97,4 +97,19 @@ pub(crate) fn without(
         }
     }
     Ok(left)
+}
+
+/// Those of these terms that are among others.
+pub(crate) fn among(
+    alloc: Global,
+    list: &[TermId],
+    others: &[TermId],
+) -> Result<Vec<TermId>, AllocError> {
+    let mut found = Vec::new(alloc);
+    for t in list {
+        if others.contains(t) {
+            found.push(*t)?;
+        }
+    }
+    Ok(found)
 }

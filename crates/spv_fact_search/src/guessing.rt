@@ -1,6 +1,7 @@
 // A guess of what the terms of a condition are worth, near to numbers that some of them had before.
 
 use crate::numbers::Numbers;
+use crate::peers::{Application, Peers, Seen};
 use crate::weighing::{is_same, left_of, of_one, of_two, right_of, truth};
 use spv_frac::Frac;
 use spv_term::{Condition, Head, Node, Sort, TermId, Terms};
@@ -50,6 +51,10 @@ pub(crate) struct Guess {
     marks: Vec<Mark>,
     // A number above all that terms had before.
     above: i64,
+    // Whether each number of which nothing is known is another one.
+    is_spread: bool,
+    // The applications by their heads.
+    peers: Peers,
 }
 
 // The node of a term, if there is one.
@@ -74,17 +79,6 @@ fn apart(above: i64, t: TermId) -> Frac {
     match above.checked_add(i64::from(t.0)) {
         Some(number) => Frac::whole(number),
         None => Frac::whole(0),
-    }
-}
-
-// The number of a term of which nothing is known: another one for each term that is no number and no truth.
-fn usual(terms: &Terms, above: i64, t: TermId) -> Frac {
-    if t.0 >= terms.len() {
-        return Frac::whole(0);
-    }
-    match terms.sort(t) {
-        Sort::Int | Sort::Bool => Frac::whole(0),
-        _ => apart(above, t),
     }
 }
 
@@ -141,13 +135,20 @@ fn are_same(left: Option<Frac>, right: Option<Frac>) -> bool {
 
 impl Guess {
     // No guess yet: a term has the number that it had before.
-    fn begin(alloc: Global, terms: &Terms, before: Numbers) -> Result<Guess, AllocError> {
+    fn begin(
+        alloc: Global,
+        terms: &Terms,
+        before: Numbers,
+        ids: &[TermId],
+    ) -> Result<Guess, AllocError> {
         let above = before.above();
         Ok(Guess {
             chosen: before,
             worth: Numbers::none(alloc, terms.len())?,
             marks: no_marks(alloc, terms.len())?,
             above,
+            is_spread: false,
+            peers: Peers::new(alloc, terms, ids)?,
         })
     }
 
@@ -156,6 +157,18 @@ impl Guess {
         match self.worth.at(t) {
             Some(number) => number,
             None => Frac::whole(0),
+        }
+    }
+
+    // The number of a term of which nothing is known: another one for each term that is no truth, and is no number unless these are spread.
+    fn usual(&self, terms: &Terms, t: TermId) -> Frac {
+        if t.0 >= terms.len() {
+            return Frac::whole(0);
+        }
+        match terms.sort(t) {
+            Sort::Bool => Frac::whole(0),
+            Sort::Int if !self.is_spread => Frac::whole(0),
+            _ => apart(self.above, t),
         }
     }
 
@@ -172,21 +185,21 @@ impl Guess {
         true
     }
 
-    // Whether a term has the head of a node, and arguments that are worth the same.
-    fn is_alike(&self, terms: &Terms, node: &Node, t: TermId) -> bool {
-        let Some(other) = node_of(terms, t) else {
-            return false;
-        };
-        node.head == other.head && self.are_worth_same(node.args.as_slice(), other.args.as_slice())
+    // Whether a term has arguments that are worth the same as these.
+    fn is_over(&self, terms: &Terms, args: &[TermId], t: TermId) -> bool {
+        match node_of(terms, t) {
+            Some(node) => self.are_worth_same(args, node.args.as_slice()),
+            None => false,
+        }
     }
 
     // The number of a term that has to have the same one as this.
-    fn alike(&self, terms: &Terms, ids: &[TermId], t: TermId) -> Option<Frac> {
+    fn alike(&self, terms: &Terms, t: TermId) -> Option<Frac> {
         let Some(node) = node_of(terms, t) else {
             return None;
         };
-        for u in ids {
-            if u.0 != t.0 && self.is_alike(terms, node, *u) {
+        for u in self.peers.of(node.head) {
+            if u.0 != t.0 && self.is_over(terms, node.args.as_slice(), *u) {
                 return self.worth.at(*u);
             }
         }
@@ -268,7 +281,7 @@ impl Guess {
     }
 
     // The number of a term by what it looks at, or one that it has to have as another one, or the usual one.
-    fn unknown(&self, terms: &Terms, ids: &[TermId], t: TermId) -> Frac {
+    fn unknown(&self, terms: &Terms, t: TermId) -> Frac {
         let seen = match node_of(terms, t) {
             Some(node) => self.seen(terms, node),
             None => None,
@@ -276,17 +289,17 @@ impl Guess {
         if let Some(number) = seen {
             return number;
         }
-        match self.alike(terms, ids, t) {
+        match self.alike(terms, t) {
             Some(number) => number,
-            None => usual(terms, self.above, t),
+            None => self.usual(terms, t),
         }
     }
 
     // The number of a term that a table lists.
-    fn listed(&self, terms: &Terms, ids: &[TermId], t: TermId) -> Frac {
+    fn listed(&self, terms: &Terms, t: TermId) -> Frac {
         match self.chosen.at(t) {
             Some(number) => number,
-            None => self.unknown(terms, ids, t),
+            None => self.unknown(terms, t),
         }
     }
 
@@ -326,9 +339,9 @@ impl Guess {
     }
 
     // Weighs one term, whose arguments were weighed.
-    fn weigh_one(&mut self, terms: &Terms, ids: &[TermId], t: TermId, is_listed: bool) {
+    fn weigh_one(&mut self, terms: &Terms, t: TermId, is_listed: bool) {
         let number = if is_listed {
-            Some(self.listed(terms, ids, t))
+            Some(self.listed(terms, t))
         } else {
             self.computed(terms, t)
         };
@@ -339,7 +352,7 @@ impl Guess {
     fn weigh(&mut self, terms: &Terms, ids: &[TermId], flags: &[bool]) {
         for place in 0..ids.len() {
             let is_listed = flags.get(place).copied().unwrap_or(false);
-            self.weigh_one(terms, ids, ids[place], is_listed);
+            self.weigh_one(terms, ids[place], is_listed);
         }
     }
 
@@ -474,34 +487,40 @@ impl Guess {
         if most < MOST_TURNS { most } else { MOST_TURNS }
     }
 
-    // Whether a term has the head of a node, arguments that are worth the same, and another number.
-    fn is_apart(&self, terms: &Terms, node: &Node, number: Frac, t: TermId) -> bool {
-        is_off(self.worth.at(t), number) && self.is_alike(terms, node, t)
-    }
-
-    // Puts a term and the first of others from which it is apart behind terms, if there is one.
-    fn push_apart(
-        &self,
-        terms: &Terms,
-        others: &[TermId],
-        t: TermId,
-        apart: &mut Vec<TermId>,
-    ) -> Result<(), AllocError> {
-        let Some(node) = node_of(terms, t) else {
-            return Ok(());
-        };
-        let number = self.at(t);
-        for u in others {
-            if self.is_apart(terms, node, number, *u) {
-                apart.push(t)?;
-                apart.push(*u)?;
-                return Ok(());
-            }
+    // What terms are worth.
+    fn all_at(&self, alloc: Global, list: &[TermId]) -> Result<Vec<Frac>, AllocError> {
+        let mut numbers = Vec::new(alloc);
+        for t in list {
+            numbers.push(self.at(*t))?;
         }
-        Ok(())
+        Ok(numbers)
     }
 
-    /// Those of these terms that are flagged, have the head of another one of them and arguments that are worth the same, and another number.
+    // Looks at an application: one of before from which it is apart, if there is one.
+    fn look(
+        &self,
+        alloc: Global,
+        terms: &Terms,
+        seen: &mut Seen,
+        t: TermId,
+    ) -> Result<Option<TermId>, AllocError> {
+        let Some(node) = node_of(terms, t) else {
+            return Ok(None);
+        };
+        if node.args.as_slice().is_empty() {
+            return Ok(None);
+        }
+        let one = Application {
+            term: t,
+            number: self.at(t),
+            head: node.head,
+            args: self.all_at(alloc, node.args.as_slice())?,
+        };
+        seen.look(alloc, &one)
+    }
+
+    /// Those of these terms that are flagged, have the head of another one of them and arguments that are worth the same, and another number; with the
+    /// first of these others.
     pub(crate) fn apart(
         &self,
         alloc: Global,
@@ -510,12 +529,23 @@ impl Guess {
         flags: &[bool],
     ) -> Result<Vec<TermId>, AllocError> {
         let mut apart = Vec::new(alloc);
+        let mut seen = Seen::new(alloc);
         for place in 0..ids.len() {
             if flags.get(place).copied().unwrap_or(false) {
-                self.push_apart(terms, &ids[..place], ids[place], &mut apart)?;
+                let found = self.look(alloc, terms, &mut seen, ids[place])?;
+                if let Some(other) = found {
+                    apart.push(ids[place])?;
+                    apart.push(other)?;
+                }
             }
         }
         Ok(apart)
+    }
+
+    /// Takes all numbers of which nothing is known for different ones.
+    pub(crate) fn spread(&mut self, terms: &Terms, ids: &[TermId], flags: &[bool]) {
+        self.is_spread = true;
+        self.weigh(terms, ids, flags);
     }
 
     /// A guess of what these terms are worth, where before each its arguments stand, and of which those that are flagged are listed by a table: a
@@ -528,7 +558,7 @@ impl Guess {
         ids: &[TermId],
         flags: &[bool],
     ) -> Result<Guess, AllocError> {
-        let mut guess = Guess::begin(alloc, terms, before)?;
+        let mut guess = Guess::begin(alloc, terms, before, ids)?;
         guess.mark(terms, ids, flags);
         guess.weigh(terms, ids, flags);
         for _ in 0..guess.turns(ids.len()) {

@@ -9,6 +9,7 @@ mod enlarging;
 mod guessing;
 mod images;
 mod numbers;
+mod peers;
 mod relevance;
 mod returning;
 mod stages;

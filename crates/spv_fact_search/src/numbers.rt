@@ -56,6 +56,17 @@ impl Numbers {
     }
 }
 
+/// The greatest whole number that is not above a number, if it is small.
+pub(crate) fn whole_part(x: Frac) -> Option<Frac> {
+    if x.den < 1 {
+        return None;
+    }
+    match i64::try_from(x.num.div_euclid(x.den)) {
+        Ok(whole) => Some(Frac::whole(whole)),
+        Err(_) => None,
+    }
+}
+
 // A whole number above a number, where that is small, and not below this one.
 fn above_both(least: i64, number: Option<Frac>) -> i64 {
     let Some(x) = number else {

@@ -15,9 +15,9 @@ ghost use Rattle.spv_fact_search.specs.Asking.{IsOwn};
 ghost use Rattle.spv_fact_search.specs.Stages.{CopyGrows, IsOutcomeOf, IsStageOf, StageGrows};
 
 use crate::abstracting::{abstracted, exchanged, fitting, is_asked, variables_for};
-use crate::choosing::{applications, are_many, numbers_and_truths, without};
+use crate::choosing::{among, applications, are_many, numbers_and_truths, without};
 use crate::images::Images;
-use crate::numbers::Numbers;
+use crate::numbers::{Numbers, whole_part};
 use crate::relevance::{all_places, near, with_these};
 use crate::returning::Return;
 use crate::trying::{Trial, tried_near};
@@ -32,8 +32,10 @@ use spv_trimming::with_shorter_proof;
 use spv_verdicts::answers::{Decided, Limits, Verdict};
 use std::alloc::{AllocError, Global};
 
-// How many stages there are at most, and how many splits each may make.
+// How many stages there are at most, with facts and without any, and how many splits each may make.
 const MOST_STAGES: usize = 64;
+
+const MOST_STAGES_ALONE: usize = 4;
 
 const MOST_SPLITS: u64 = 2_000;
 
@@ -53,11 +55,11 @@ struct Stage {
     variables: Vec<TermId>,
 }
 
-// What is taken in a stage: the applications for which variables stand; how many hypotheses come first that are no facts, of which the last one is what the
+// What is taken in a stage: which applications stand for themselves; how many hypotheses come first that are no facts, of which the last one is what the
 // search is about, and how many facts there are; and whether all of these are taken, or those alone that are near to the first hypotheses.
 #[derive(Drop)]
 struct Choice {
-    applications: Vec<TermId>,
+    apart: Vec<TermId>,
     first: usize,
     facts: usize,
     all_facts: bool,
@@ -133,6 +135,16 @@ fn put_in(
     Ok(Some(Abstraction { variables, images }))
 }
 
+// The applications for which variables stand in a stage where these stand for themselves.
+fn standing_for(alloc: Global, copied: &Copied, apart: &[TermId]) -> Result<Vec<TermId>, AllocError>
+    requires given { AllBelow (length copied.now.terms.nodes) copied.now.condition.given }
+    requires goal { copied.now.condition.goal.0 < length copied.now.terms.nodes }
+{
+    let all = applications(alloc, &copied.terms, &copied.condition)?;
+    let chosen = numbers_and_truths(alloc, &copied.terms, all.as_slice())?;
+    without(alloc, chosen.as_slice(), apart)
+}
+
 // A stage of a condition; none where one cannot be made.
 fn staged(
     alloc: Global,
@@ -147,8 +159,8 @@ fn staged(
     let Some(mut copied) = own_copy(alloc, terms, condition)? else {
         return Ok(None);
     };
-    let list = choice.applications.as_slice();
-    let Some(made) = put_in(alloc, &mut copied, list)? else {
+    let applications = standing_for(alloc, &copied, choice.apart.as_slice())?;
+    let Some(made) = put_in(alloc, &mut copied, applications.as_slice())? else {
         return Ok(None);
     };
     let whole = abstracted(alloc, &copied.condition, &made.images)?;
@@ -163,7 +175,7 @@ fn staged(
         condition: copied.condition,
         abstracted,
         places,
-        applications: list.to_vec(alloc)?,
+        applications,
         variables,
     }))
 }
@@ -245,7 +257,7 @@ fn proved(alloc: Global, stage: Stage, from: &Terms, proof: &Proof) -> Result<Ou
     }
 }
 
-// The numbers of a table, for what its terms become, if all are whole.
+// The numbers of a table, for what its terms become, each cut to a whole one: what a table says of differences is as true of these.
 fn numbers_of(
     alloc: Global,
     terms: &Terms,
@@ -254,15 +266,16 @@ fn numbers_of(
 ) -> Result<Option<Numbers>, AllocError> {
     let mut numbers = Numbers::none(alloc, terms.len())?;
     for pair in table.values.as_slice() {
-        if pair.1.den != 1 {
+        let Some(whole) = whole_part(pair.1) else {
             return Ok(None);
-        }
-        numbers.put(back.at(pair.0), Some(pair.1));
+        };
+        numbers.put(back.at(pair.0), Some(whole));
     }
     Ok(Some(numbers))
 }
 
-// The condition is false in a table near to that of what stands for it, if this is seen of it there.
+// The condition is false in a table near to that of what stands for it, if this is seen of it there: in an arena that has nothing but its terms, whose
+// ids are those that they have in the stage.
 fn unproved(alloc: Global, stage: Stage, from: &Terms, table: &Table) -> Result<Outcome, AllocError>
     requires shapes { stage.terms.shapes ≡ from.now.shapes }
     requires decls { stage.terms.decls ≡ from.now.decls }
@@ -277,13 +290,19 @@ fn unproved(alloc: Global, stage: Stage, from: &Terms, table: &Table) -> Result<
     let Some(numbers) = numbers_of(alloc, &stage.terms, table, &back)? else {
         return Ok(Outcome::Nothing);
     };
-    match tried_near(alloc, &stage.terms, &stage.condition, numbers)? {
+    let Some(own) = own_copy(alloc, &stage.terms, &stage.condition)? else {
+        return Ok(Outcome::Nothing);
+    };
+    match tried_near(alloc, &own.terms, &own.condition, numbers)? {
         Trial::Shown(found) => Ok(Outcome::Decided(Decided {
-            terms: stage.terms,
-            condition: stage.condition,
+            terms: own.terms,
+            condition: own.condition,
             verdict: Verdict::Unproved(found),
         })),
-        Trial::Apart(list) => Ok(Outcome::Apart(list)),
+        Trial::Apart(list) => {
+            let apart = among(alloc, list.as_slice(), stage.applications.as_slice())?;
+            Ok(Outcome::Apart(apart))
+        }
         Trial::NotShown => Ok(Outcome::NotShown),
     }
 }
@@ -333,25 +352,18 @@ fn try_stage(
     }
 }
 
-// The applications for which variables stand first; none where a search over all pair equations is not dear.
-fn chosen(
-    alloc: Global,
-    terms: &Terms,
-    condition: &Condition,
-) -> Result<Option<Vec<TermId>>, AllocError>
+// Whether a search over all pair equations of a condition is dear.
+fn is_dear(alloc: Global, terms: &Terms, condition: &Condition) -> Result<bool, AllocError>
     requires given { AllBelow (length terms.now.nodes) condition.now.given }
     requires goal { condition.now.goal.0 < length terms.now.nodes }
 {
     let list = applications(alloc, terms, condition)?;
-    if !are_many(terms, list.as_slice()) {
-        return Ok(None);
-    }
-    let Some(copied) = own_copy(alloc, terms, condition)? else {
-        return Ok(None);
-    };
-    let own = applications(alloc, &copied.terms, &copied.condition)?;
-    let chosen = numbers_and_truths(alloc, &copied.terms, own.as_slice())?;
-    Ok(Some(chosen))
+    Ok(are_many(terms, list.as_slice()))
+}
+
+// Whether a stage may take all of its facts, if there are any.
+fn has_few_facts(choice: &Choice) -> bool {
+    choice.facts != 0 && choice.facts <= MOST_FACTS
 }
 
 // The next choice behind one that came to nothing but this; none where there is none.
@@ -361,25 +373,35 @@ fn next_choice(
     outcome: Outcome,
 ) -> Result<Option<Choice>, AllocError> {
     match outcome {
-        Outcome::Apart(apart) => {
-            let applications = without(alloc, choice.applications.as_slice(), apart.as_slice())?;
-            if applications.len() == choice.applications.len() {
+        Outcome::Apart(list) => {
+            if list.is_empty() {
                 return Ok(None);
             }
+            let mut apart = choice.apart;
+            apart.extend_from_slice(list.as_slice())?;
             Ok(Some(Choice {
-                applications,
+                apart,
                 first: choice.first,
                 facts: choice.facts,
                 all_facts: choice.all_facts,
             }))
         }
-        Outcome::NotShown if !choice.all_facts && choice.facts <= MOST_FACTS => Ok(Some(Choice {
-            applications: choice.applications,
+        Outcome::NotShown if !choice.all_facts && has_few_facts(&choice) => Ok(Some(Choice {
+            apart: choice.apart,
             first: choice.first,
             facts: choice.facts,
             all_facts: true,
         })),
         _ => Ok(None),
+    }
+}
+
+// How many stages there are at most with so many facts.
+fn stages_at_most(facts: usize) -> usize {
+    if facts == 0 {
+        MOST_STAGES_ALONE
+    } else {
+        MOST_STAGES
     }
 }
 
@@ -396,19 +418,19 @@ fn found(
     ensures { IfOk result (λ o. IfSome o (IsDecided terms.now condition.now limits.now)) }
 {
     let facts = condition.given.len().saturating_sub(focus);
-    if facts == 0 || facts > FACTS_AT_ALL {
+    if facts > FACTS_AT_ALL {
         return Ok(None);
     }
-    let Some(applications) = chosen(alloc, terms, condition)? else {
+    if !is_dear(alloc, terms, condition)? {
         return Ok(None);
-    };
+    }
     let mut choice = Choice {
-        applications,
+        apart: Vec::new(alloc),
         first: focus,
         facts,
         all_facts: false,
     };
-    for _ in 0..MOST_STAGES {
+    for _ in 0..stages_at_most(facts) {
         match try_stage(alloc, terms, condition, limits, &choice)? {
             Outcome::Decided(decided) => return Ok(Some(decided)),
             other => match next_choice(alloc, choice, other)? {

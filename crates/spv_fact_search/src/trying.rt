@@ -122,7 +122,7 @@ pub(crate) enum Trial {
     NotShown,
 }
 
-// What comes of a table in which these terms are apart.
+// What comes of a table, where these terms were apart before its numbers were spread.
 fn tried_by(
     alloc: Global,
     terms: &Terms,
@@ -135,12 +135,10 @@ fn tried_by(
     requires table { IsTableFor terms.now condition.now table }
     ensures { IfOk result (IsTrialOf terms.now condition.now) }
 {
-    if !apart.is_empty() {
-        return Ok(Trial::Apart(apart));
-    }
     match shown_by(alloc, terms, condition, table)? {
         Some(found) => Ok(Trial::Shown(found)),
-        None => Ok(Trial::NotShown),
+        None if apart.is_empty() => Ok(Trial::NotShown),
+        None => Ok(Trial::Apart(apart)),
     }
 }
 
@@ -159,8 +157,15 @@ pub(crate) fn tried_near(
     let flags = listed(alloc, terms, &used)?;
     let ids = used.as_slice();
     let marks = flags.as_slice();
-    let guess = Guess::new(alloc, terms, condition, before, ids, marks)?;
+    let mut guess = Guess::new(alloc, terms, condition, before, ids, marks)?;
     let apart = guess.apart(alloc, terms, ids, marks)?;
+    if !apart.is_empty() {
+        guess.spread(terms, ids, marks);
+        let still = guess.apart(alloc, terms, ids, marks)?;
+        if !still.is_empty() {
+            return Ok(Trial::Apart(apart));
+        }
+    }
     let table = table_by(alloc, terms, &guess, ids, marks)?;
     tried_by(alloc, terms, condition, table, apart)
 }

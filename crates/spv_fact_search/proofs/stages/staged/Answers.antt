@@ -4,6 +4,11 @@ use Rattle.spv_fact_search.specs.Asking.{IsOwn}
 use Rattle.spv_fact_search.proofs.Staged.{stage-own}
 use Rattle.spv_fact_search.proofs.stages.staged.Goals as goal
 
+pub standing_for-requires : goal.standing_for-requires
+standing_for-requires c =
+    let is = subst (λ (o : Option Copied). IfSome o (λ k. IsOwn c.args.terms.now c.args.condition.now k.terms k.condition)) c.in-Some.is c.in_ok-copied.ensures in
+    record { given = is.claim.given_in; goal = is.claim.goal_in }
+
 pub returns : goal.returns
 returns c =
     let a = c.args.terms.now in
