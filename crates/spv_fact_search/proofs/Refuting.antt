@@ -32,7 +32,7 @@ among-last [] t = ap (λ b. b || is_among [] t) (term_eq-refl t)
 among-last (s ∷ ts) t = or_right (term_eq t s) (is_among (ts ++ t ∷ []) t) (among-last ts t)
 
 -- the negation of a formula is well sorted
-may-deny : (a : Arena) → IsArena a → (t : TermId) → t.0 < length a.nodes → is_truth a.shapes a.decls (tree a t) ≡ true → IsSome (result_sort a.shapes a.decls Not (sorts_at a (t ∷ [])))
+pub may-deny : (a : Arena) → IsArena a → (t : TermId) → t.0 < length a.nodes → is_truth a.shapes a.decls (tree a t) ≡ true → IsSome (result_sort a.shapes a.decls Not (sorts_at a (t ∷ [])))
 may-deny a ok t h truth =
     let s : sort_at a t ≡ sort.Bool = sort_eq-true (sort_at a t) sort.Bool (sym (ap (has_sort sort.Bool) (IsWellSorted-arena a ok t h)) ∙ truth) in
     ap (λ (x : Sort). is_some (result_sort a.shapes a.decls Not (x ∷ []))) s

@@ -1,6 +1,7 @@
 -- A condition that is asked of a search, and one in an arena of its own.
 use Rattle.std.specs.Prelude.{◌≡◌, ◌<◌, true, List, [], ◌∷◌, length}
 use Rattle.spv_logic.specs.declared.conditions.TermId.{TermId}
+use Rattle.spv_logic.specs.declared.types.Sort.TheVariants.{Int}
 use Rattle.spv_term.specs.declared.nodes.Condition.{Condition}
 use Rattle.spv_term.specs.Arena.{Arena, sort_at, tree}
 use Rattle.spv_atoms.specs.Atoms.{is_truth}
@@ -10,6 +11,9 @@ use Rattle.spv_search_terms.specs.condition_copy.Copies.{IsSameClaim}
 
 abbrev pub IsTruthThere : Arena → TermId → Type 0
 IsTruthThere a t = (t.0 < length a.nodes) × (is_truth a.shapes a.decls (tree a t) ≡ true)
+
+abbrev pub IsNumberThere : Arena → TermId → Type 0
+IsNumberThere a t = (t.0 < length a.nodes) × (sort_at a t ≡ Int)
 
 abbrev pub AreTruthsThere : Arena → List TermId → Type 0
 AreTruthsThere a [] = Unit {0}

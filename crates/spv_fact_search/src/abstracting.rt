@@ -2,7 +2,7 @@
 
 ghost use Rattle.std.specs.Prelude.{◌≡◌, ◌<◌, length, IsTrue};
 ghost use Rattle.spv_term.specs.Arena.{Extends};
-ghost use Rattle.spv_fact_search.specs.Asking.{AreTruthsThere, HasSortOf, HaveSortsOf, IsAsked, IsTruthThere};
+ghost use Rattle.spv_fact_search.specs.Asking.{AreTruthsThere, HasSortOf, HaveSortsOf, IsAsked, IsNumberThere, IsTruthThere};
 
 use crate::images::Images;
 use spv_logic::names::Symbol;
@@ -73,14 +73,21 @@ fn are_one(first: Sort, second: Sort) -> bool
     first == second
 }
 
-// Whether two terms are there, and of one sort.
-fn has_sort_of(terms: &Terms, t: TermId, own: TermId) -> bool
+/// Whether two terms are there, and of one sort.
+pub(crate) fn has_sort_of(terms: &Terms, t: TermId, own: TermId) -> bool
     ensures { IsTrue result → HasSortOf terms.now t own }
 {
     if !is_there(terms, t) || !is_there(terms, own) {
         return false;
     }
     are_one(terms.sort(t), terms.sort(own))
+}
+
+/// Whether a term is there, and a number.
+pub(crate) fn is_number_there(terms: &Terms, t: TermId) -> bool
+    ensures { IsTrue result → IsNumberThere terms.now t }
+{
+    is_there(terms, t) && are_one(terms.sort(t), Sort::Int)
 }
 
 // Whether terms are there, each of the sort of the one in its place.
@@ -183,8 +190,8 @@ pub(crate) fn abstracted(
     })
 }
 
-// Whether a term is there, and a truth.
-fn is_truth_there(terms: &Terms, t: TermId) -> bool
+/// Whether a term is there, and a truth.
+pub(crate) fn is_truth_there(terms: &Terms, t: TermId) -> bool
     ensures { IsTrue result → IsTruthThere terms.now t }
 {
     is_there(terms, t) && is_truth(terms, t)

@@ -3,13 +3,19 @@
 #![tactic(auto)]
 
 mod abstracting;
+mod assembling;
 mod choosing;
+mod claims;
+mod cutting;
 mod deciding;
 mod enlarging;
 mod guessing;
 mod images;
 mod numbers;
+mod parts;
 mod peers;
+mod ranging;
+mod reasoning;
 mod relevance;
 mod returning;
 mod stages;

@@ -18,6 +18,7 @@ use crate::abstracting::{abstracted, exchanged, fitting, is_asked, variables_for
 use crate::choosing::{among, applications, are_many, numbers_and_truths, without};
 use crate::images::Images;
 use crate::numbers::{Numbers, whole_part};
+use crate::reasoning::decide_by_parts;
 use crate::relevance::{all_places, near, with_these};
 use crate::returning::Return;
 use crate::trying::{Trial, tried_near};
@@ -78,8 +79,8 @@ enum Outcome {
     Nothing,
 }
 
-// A copy of a condition in an arena of its own, if there is room.
-fn own_copy(
+/// A copy of a condition in an arena of its own, if there is room.
+pub(crate) fn own_copy(
     alloc: Global,
     terms: &Terms,
     condition: &Condition,
@@ -180,14 +181,14 @@ fn staged(
     }))
 }
 
-// The limits of a stage.
-fn limits_of(limits: &Limits) -> Limits {
+/// The limits of a stage.
+pub(crate) fn limits_of(limits: &Limits) -> Limits {
     let splits = limits.splits().min(MOST_SPLITS);
     Limits::new(splits, limits.instances(), limits.pivots()).with_terms(limits.terms())
 }
 
-// All terms of an arena.
-fn all_terms(alloc: Global, terms: &Terms) -> Result<Vec<TermId>, AllocError> {
+/// All terms of an arena.
+pub(crate) fn all_terms(alloc: Global, terms: &Terms) -> Result<Vec<TermId>, AllocError> {
     let mut list = Vec::new(alloc);
     for number in 0..terms.len() {
         list.push(TermId(number))?;
@@ -307,8 +308,8 @@ fn unproved(alloc: Global, stage: Stage, from: &Terms, table: &Table) -> Result<
     }
 }
 
-// What the search decides of the condition of a stage, with a short proof, so that less has to be tested of the condition itself.
-fn searched(
+/// What the search decides of the condition of a stage, with a short proof, so that less has to be tested of the condition itself.
+pub(crate) fn searched(
     alloc: Global,
     terms: &Terms,
     condition: &Condition,
@@ -442,7 +443,8 @@ fn found(
     Ok(None)
 }
 
-/// What `decide_near` decides of a condition, where it has many applications of one head in stages: with a part of their pair equations first.
+/// What `decide_near` decides of a condition: first by parts where it has such; then, where it has many applications of one head, in stages, with a part of
+/// their pair equations first.
 pub(crate) fn decide_in_stages(
     alloc: Global,
     terms: &Terms,
@@ -455,6 +457,9 @@ pub(crate) fn decide_in_stages(
     requires formulas { AreFormulas terms.now.shapes terms.now.decls (formulas_of (question terms.now condition.now).sequent) }
     ensures decided { IfOk result (IsDecided terms.now condition.now limits.now) }
 {
+    if let Some(decided) = decide_by_parts(alloc, terms, condition, limits)? {
+        return Ok(decided);
+    }
     match found(alloc, terms, condition, limits, focus)? {
         Some(decided) => Ok(decided),
         None => decide_near(alloc, terms, condition, limits, focus),

@@ -82,18 +82,17 @@ struct Evaluation<'a> {
 }
 
 impl<'a> Evaluation<'a> {
-    // The value that is given to a term: by a fact, or since the claim is false.
+    // The value that is given to a term: since the claim is false, or by a fact, which is needed where it is another one than that.
     fn given(&self, t: TermId) -> Option<Given> {
-        if let Some(given) = self.facts.given(self.connectives, t) {
-            return Some(given);
+        let found = self.facts.given(self.connectives, t);
+        if self.claim.formula != t.0 {
+            return found;
         }
-        if self.claim.formula == t.0 {
-            return Some(Given {
-                value: !self.claim.value,
-                fact: 0,
-            });
+        let value = !self.claim.value;
+        match found {
+            Some(given) if given.value != value => Some(given),
+            _ => Some(Given { value, fact: 0 }),
         }
-        None
     }
 
     // The value of a term: the given one, else the one that was computed.
