@@ -75,7 +75,8 @@ fn tree_of(
 /// file and for a listing, where they are there. Or what one of the texts is refused for: the first for its first fault, in the order of
 /// reading, names and types, frames; where it has none, the rule file for its first fault, in the order of reading, then of names, types and
 /// variables; where that has none, the listing, where it is too long or no listing has its bytes; and where it is not refused either, the
-/// first because its conditions are too many or too large. Memory: there was not enough of it.
+/// first because its conditions are too many or too large. Memory: there was not enough of it, or, in the modes `Verify` and `Simplify`, the
+/// page would have more than 4 GiB by the hypotheses and goals of the conditions alone: these are not decided then.
 pub fn report_of(
     alloc: Global,
     text: &[u8],

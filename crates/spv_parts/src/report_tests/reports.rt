@@ -1,10 +1,11 @@
 //! What a report holds.
 
 use spv_reports::{
-    Decided, Report, Verdict, all_proved, default_limits, is_proved, is_unproved, law_report,
+    Decided, Load, Mode, Report, Verdict, all_proved, default_limits, is_proved, is_unproved,
+    law_report,
 };
 use spv_term::{Kind, PlainWorld};
-use spv_verify::{list, verify};
+use spv_verify::{VerifyFault, list, report_of, verify};
 use std::alloc::{AllocError, Global};
 use std::test::Fail;
 
@@ -96,11 +97,37 @@ fn doubling(alloc: Global, times: usize) -> Result<Vec<u8>, AllocError> {
     Ok(text)
 }
 
+// The report of a text whose page counts the conditions and prints none.
+fn counted(alloc: Global, text: &[u8]) -> Result<Report, VerifyFault> {
+    let load = Load { number: 1, size: 1 };
+    report_of(alloc, text, None, None, Mode::Drill(load, default_limits()))
+}
+
 #[test]
 fn a_shared_term_is_one(rt: HostRuntime) -> Result<(), Fail> {
     let text = doubling(rt.alloc(), 40)?;
-    let report = verify(rt.alloc(), text.as_slice(), None, default_limits())?;
+    let report = counted(rt.alloc(), text.as_slice())?;
     assert!(rt; report.terms().len() <= 200);
     assert!(rt; all_proved(report.verdicts()));
+    Ok(())
+}
+
+// Whether the conditions of a text are not decided, since no memory holds a page that prints them.
+fn has_no_page(alloc: Global, text: &[u8]) -> bool {
+    matches!(
+        verify(alloc, text, None, default_limits()),
+        Err(VerifyFault::Memory)
+    )
+}
+
+// Doubled 29 times, the goal has 3 GiB where it is printed, and doubled once more 6 GiB.
+#[test]
+fn what_no_page_holds_is_not_decided(rt: HostRuntime) -> Result<(), Fail> {
+    let most = doubling(rt.alloc(), 29)?;
+    let report = verify(rt.alloc(), most.as_slice(), None, default_limits())?;
+    assert!(rt; all_proved(report.verdicts()));
+    let more = doubling(rt.alloc(), 30)?;
+    assert!(rt; has_no_page(rt.alloc(), more.as_slice()));
+    assert_eq!(rt; list(rt.alloc(), more.as_slice())?.conditions().len(), 1);
     Ok(())
 }

@@ -12,6 +12,7 @@ ghost use Rattle.spv_reports.specs.Headings.{header_of};
 ghost use Rattle.spv_reports.specs.Reports as reports;
 ghost use Rattle.spv_reports.specs.Reports.{AreRechecked, AreVerdicts, AreVerdictsIn, recheck_of};
 
+use crate::reporting::lengths::are_claims_too_long;
 use crate::reporting::rounds::decide_under;
 use spv_listing_values::{Entry, Listing};
 use spv_rechecking::recheck;
@@ -40,6 +41,26 @@ fn decide_all(
         verdicts.push(decide_under(alloc, terms, condition, rules, limits)?)?;
     }
     Ok(verdicts)
+}
+
+// The same for a page that prints the conditions. Where no memory holds that page, nothing is searched for.
+fn decide_for_page(
+    alloc: Global,
+    terms: &Terms,
+    conditions: &[Condition],
+    rules: &Rules,
+    limits: &Limits,
+) -> Result<Vec<Decided>, AllocError>
+    requires in_range { AreIn terms.now conditions.now }
+    requires formulas { AreFormulasIn terms.now conditions.now }
+    requires shapes { rules.now.arena.shapes ≡ terms.now.shapes }
+    requires decls { rules.now.arena.decls ≡ terms.now.decls }
+    ensures { IfOk result (λ v. AreVerdicts (rules_in rules.now) terms.now limits.now conditions.now v.items) }
+{
+    if are_claims_too_long(alloc, terms, conditions)? {
+        return Err(AllocError);
+    }
+    decide_all(alloc, terms, conditions, rules, limits)
 }
 
 // What a listing says of each condition; nothing where there is no listing.
@@ -118,7 +139,8 @@ fn recheck_all(
     Ok(verdicts)
 }
 
-/// The verdicts on conditions under rules that a report of this mode has, in the mode `Check` for this listing.
+/// The verdicts on conditions under rules that a report of this mode has, in the mode `Check` for this listing. Want of memory comes in the
+/// modes `Verify` and `Simplify` too where no memory holds a page with these conditions.
 pub(crate) fn decided(
     alloc: Global,
     mode: &Mode,
@@ -135,9 +157,10 @@ pub(crate) fn decided(
     ensures { IfOk result (λ v. AreVerdictsIn mode.now listing.now (rules_in rules.now) named.now terms.now conditions.now v.items) }
 {
     match mode {
-        Mode::Verify(limits) | Mode::Simplify(limits) | Mode::Drill(_, limits) => {
-            decide_all(alloc, terms, conditions, rules, limits)
+        Mode::Verify(limits) | Mode::Simplify(limits) => {
+            decide_for_page(alloc, terms, conditions, rules, limits)
         }
+        Mode::Drill(_, limits) => decide_all(alloc, terms, conditions, rules, limits),
         Mode::Check => recheck_all(alloc, named, terms, conditions, rules, entries_of(listing)),
         Mode::Conditions => Ok(Vec::new(alloc)),
     }

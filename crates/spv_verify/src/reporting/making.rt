@@ -67,7 +67,8 @@ fn make_parts(
 
 /// The report on a program under rules over its types and symbols, for what its mode says: the conditions of the definition, in its
 /// order, and but for the mode `Conditions` a verdict on each, within its limits, or in the mode `Check` on the proof that a listing has.
-/// Else the limit that the conditions meet, or that there is no memory left.
+/// Else the limit that the conditions meet, or that there is no memory left; or none for a page that prints the conditions, in the modes
+/// `Verify` and `Simplify`.
 pub fn report_on(
     alloc: Global,
     names: Names,
