@@ -4,8 +4,10 @@ use spv_term::{Condition, Head, TermId, Terms};
 use spv_trimming::testing::is_there;
 use std::alloc::{AllocError, Global};
 
-// How many formulas of one hypothesis are looked at.
+// How many formulas of one hypothesis are looked at, and how many claims are taken of all.
 const MOST_FORMULAS: usize = 20_000;
+
+const MOST_CLAIMS: usize = 20_000;
 
 /// That a formula is true, or false.
 #[derive(Clone, Copy, Debug)]
@@ -140,7 +142,7 @@ pub(crate) fn taken_apart(
     Ok(Vec::new(alloc))
 }
 
-/// What the hypotheses of a condition say, in order: claims that do not come to two together.
+/// What the hypotheses of a condition say, in order: claims that do not come to two together. Where these are too many, those of the first hypotheses.
 pub(crate) fn all_said(
     alloc: Global,
     terms: &Terms,
@@ -148,6 +150,9 @@ pub(crate) fn all_said(
 ) -> Result<Vec<Said>, AllocError> {
     let mut all = Vec::new(alloc);
     for (place, f) in condition.given.as_slice().iter().enumerate() {
+        if all.len() > MOST_CLAIMS {
+            break;
+        }
         let found = taken_apart(alloc, terms, is_true(*f), Taking::Both)?;
         for claim in found.as_slice() {
             all.push(Said {

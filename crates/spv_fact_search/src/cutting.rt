@@ -5,7 +5,7 @@ ghost use Rattle.spv_term.specs.Arena.{Extends};
 
 use crate::assembling::{Assembly, Fork, Source, source_of};
 use crate::claims::{Claim, Said, Taking, all_said, is_choice, taken_apart};
-use crate::parts::{equation_of, formula_of, proof_of_part};
+use crate::parts::{Attempt, equation_of, formula_of, search_part};
 use spv_atoms::{ProofNode, Stated};
 use spv_logic::list::List;
 use spv_proof_steps::candidates::sides;
@@ -23,6 +23,14 @@ const MOST_WAYS: usize = 16;
 const MOST_SIDES: usize = 64;
 
 const MOST_CUTS: usize = 64;
+
+// How many choices are looked at.
+const MOST_CHOICES: usize = 256;
+
+// How many splits the proof of a cut may make, and the search with all of them at hand.
+const MOST_SPLITS: u64 = 100;
+
+const MOST_SPLITS_BEHIND: u64 = 2_000;
 
 // Terms in classes of equal ones.
 #[derive(Drop)]
@@ -188,11 +196,13 @@ fn cuts_of(alloc: Global, terms: &Terms, condition: &Condition) -> Result<Vec<Cu
     let all = all_said(alloc, terms, condition)?;
     let mut cuts = Vec::new(alloc);
     let mut choices: usize = 0;
+    let mut looks: usize = 0;
     for one in all.as_slice() {
         if is_choice(terms, one.claim) {
+            looks = looks.saturating_add(1);
             choices = choices.saturating_add(add_cuts(alloc, terms, *one, &mut cuts)?);
         }
-        if cuts.len() > MOST_CUTS {
+        if cuts.len() > MOST_CUTS || looks > MOST_CHOICES {
             break;
         }
     }
@@ -250,15 +260,15 @@ fn lemma_of(
         return Ok(None);
     };
     let part = part_of(alloc, condition, choice, equation)?;
-    let Some(nodes) = proof_of_part(alloc, terms, &part, limits)? else {
-        return Ok(None);
-    };
-    Ok(Some(Lemma {
-        equation,
-        is_of_numbers: is_of_numbers(terms, cut.left),
-        choice: source_of(condition, cut.choice),
-        nodes,
-    }))
+    match search_part(alloc, terms, &part, limits, MOST_SPLITS)? {
+        Attempt::Done(nodes) => Ok(Some(Lemma {
+            equation,
+            is_of_numbers: is_of_numbers(terms, cut.left),
+            choice: source_of(condition, cut.choice),
+            nodes,
+        })),
+        _ => Ok(None),
+    }
 }
 
 // One lemma more, if there is one.
@@ -361,31 +371,29 @@ fn assembled(
     Ok(whole)
 }
 
-/// The nodes of a proof of a condition that is searched through with its cuts at hand, if one is found.
+/// What is found of a condition that is searched through with its cuts at hand.
 pub(crate) fn by_cuts(
     alloc: Global,
     terms: &mut Terms,
     condition: &Condition,
     limits: &Limits,
     falsity: TermId,
-) -> Result<Option<Assembly>, AllocError>
+) -> Result<Attempt<Assembly>, AllocError>
     ensures grows { Extends terms.old terms.new }
 {
     let cuts = cuts_of(alloc, terms, condition)?;
     if cuts.as_slice().is_empty() {
-        return Ok(None);
+        return Ok(Attempt::Nothing);
     }
     let lemmas = lemmas_of(alloc, terms, condition, limits, cuts.as_slice())?;
-    let whole = with_lemmas(alloc, condition, lemmas.as_slice())?;
-    let Some(nodes) = proof_of_part(alloc, terms, &whole, limits)? else {
-        return Ok(None);
-    };
-    let found = assembled(
-        alloc,
-        condition,
-        lemmas.as_slice(),
-        nodes.as_slice(),
-        falsity,
-    )?;
-    Ok(Some(found))
+    let list = lemmas.as_slice();
+    let whole = with_lemmas(alloc, condition, list)?;
+    match search_part(alloc, terms, &whole, limits, MOST_SPLITS_BEHIND)? {
+        Attempt::Done(nodes) => {
+            let found = assembled(alloc, condition, list, nodes.as_slice(), falsity)?;
+            Ok(Attempt::Done(found))
+        }
+        Attempt::Table(numbers) => Ok(Attempt::Table(numbers)),
+        Attempt::Nothing => Ok(Attempt::Nothing),
+    }
 }

@@ -8,9 +8,10 @@ ghost use Rattle.spv_fact_search.specs.Asking.{IsTruthThere};
 use crate::abstracting::{fitting, has_sort_of, is_asked, is_number_there, is_truth_there};
 use crate::claims::Claim;
 use crate::images::Images;
+use crate::numbers::Numbers;
 use crate::returning::Return;
-use crate::stages::{all_terms, limits_of, searched};
-use spv_atoms::{Proof, ProofNode};
+use crate::stages::{all_terms, limits_of, numbers_of, searched};
+use spv_atoms::ProofNode;
 use spv_search_terms::condition_copy::copy_all;
 use spv_search_terms::subterms::{made, subterms};
 use spv_term::{Condition, Head, TermFault, TermId, Terms};
@@ -89,13 +90,19 @@ pub(crate) fn formula_of(terms: &mut Terms, claim: Claim) -> Result<Option<TermI
     fitting(negation(terms, claim.term))
 }
 
-// The nodes of a proof over the terms of another arena, over those of this one.
-fn brought(
-    alloc: Global,
-    terms: &mut Terms,
-    from: &Terms,
-    proof: &Proof,
-) -> Result<Option<Vec<ProofNode>>, AllocError>
+/// What comes of an attempt to prove something.
+#[derive(Drop)]
+pub(crate) enum Attempt<T> {
+    /// This.
+    Done(T),
+    /// A table in which it is false: numbers of terms.
+    Table(Numbers),
+    /// Nothing.
+    Nothing,
+}
+
+// The way from another arena to this one: what its terms are there.
+fn way_back(alloc: Global, terms: &mut Terms, from: &Terms) -> Result<Option<Return>, AllocError>
     requires shapes { terms.old.shapes ≡ from.now.shapes }
     requires decls { terms.old.decls ≡ from.now.decls }
     ensures grows { Extends terms.old terms.new }
@@ -108,30 +115,47 @@ fn brought(
     let Some(images) = fitting(copy_all(alloc, from, &order, terms))? else {
         return Ok(None);
     };
-    let back = Return::new(Images::new(images), Vec::new(alloc));
-    Ok(Some(back.nodes(alloc, proof.nodes())?))
+    Ok(Some(Return::new(Images::new(images), Vec::new(alloc))))
 }
 
-/// The nodes of a proof of a part, if a short search finds one.
-pub(crate) fn proof_of_part(
+// A verdict on a part, told over the terms that its terms are.
+fn told(
+    alloc: Global,
+    terms: &Terms,
+    back: &Return,
+    verdict: &Verdict,
+) -> Result<Attempt<Vec<ProofNode>>, AllocError> {
+    match verdict {
+        Verdict::Proved(proof) => Ok(Attempt::Done(back.nodes(alloc, proof.nodes())?)),
+        Verdict::Unproved(found) => match numbers_of(alloc, terms, &found.table, back)? {
+            Some(numbers) => Ok(Attempt::Table(numbers)),
+            None => Ok(Attempt::Nothing),
+        },
+        _ => Ok(Attempt::Nothing),
+    }
+}
+
+/// What a search finds of a part that makes so many splits at most: the nodes of a proof, or a table.
+pub(crate) fn search_part(
     alloc: Global,
     terms: &mut Terms,
     part: &Condition,
     limits: &Limits,
-) -> Result<Option<Vec<ProofNode>>, AllocError>
+    splits: u64,
+) -> Result<Attempt<Vec<ProofNode>>, AllocError>
     ensures grows { Extends terms.old terms.new }
 {
     if !is_asked(terms, part) {
-        return Ok(None);
+        return Ok(Attempt::Nothing);
     }
-    let few = limits_of(limits);
+    let few = limits_of(limits, splits);
     let Decided {
         terms: from,
         condition: _,
         verdict,
     } = searched(alloc, terms, part, &few, 0)?;
-    match verdict {
-        Verdict::Proved(proof) => brought(alloc, terms, &from, &proof),
-        _ => Ok(None),
-    }
+    let Some(back) = way_back(alloc, terms, &from)? else {
+        return Ok(Attempt::Nothing);
+    };
+    told(alloc, terms, &back, &verdict)
 }

@@ -4,7 +4,7 @@ ghost use Rattle.spv_term.specs.Arena.{Extends};
 
 use crate::assembling::{Assembly, Source, source_of};
 use crate::claims::{Claim, Said, Taking, all_said, is_choice, taken_apart};
-use crate::parts::{equation_of, formula_of, order_of, proof_of_part};
+use crate::parts::{Attempt, equation_of, formula_of, order_of, search_part};
 use spv_atoms::{Relation, Stated, Step, numeral};
 use spv_frac::Frac;
 use spv_logic::Origin;
@@ -13,7 +13,7 @@ use spv_proof_steps::candidates::sides;
 use spv_search_terms::condition_copy::Base;
 use spv_search_terms::subterms::subterms;
 use spv_term::{Condition, Head, TermId, Terms};
-use spv_trimming::testing::is_there;
+use spv_trimming::testing::{are_there, is_there};
 use spv_verdicts::answers::Limits;
 use std::alloc::{AllocError, Global};
 
@@ -22,10 +22,18 @@ const LEAST_VALUES: usize = 12;
 
 const MOST_VALUES: usize = 1_024;
 
-// How many bounds are paired, and how many formulas a part may have.
+// How many bounds there may be for a number from each side, how many pairs of them are looked at, and how many applications for each.
 const MOST_BOUNDS: usize = 32;
 
+const MOST_PAIRS: usize = 16;
+
+const MOST_LOOKS: usize = 8;
+
+// How many formulas a part may have, and how many splits its search may make.
+
 const MOST_FORMULAS: usize = 64;
+
+const MOST_SPLITS: u64 = 100;
 
 // A numeral that bounds a number.
 #[derive(Clone, Copy)]
@@ -223,32 +231,69 @@ fn push_bound(bounds: &mut Vec<Bound>, bound: Option<Bound>) -> Result<(), Alloc
     Ok(())
 }
 
-// The arguments of the applications in a formula, behind others.
+// The terms of claims.
+fn terms_of(alloc: Global, all: &[Said]) -> Result<Vec<TermId>, AllocError> {
+    let mut list = Vec::new(alloc);
+    for one in all {
+        list.push(one.claim.term)?;
+    }
+    Ok(list)
+}
+
+// Puts the arguments of an application behind others.
 fn add_arguments(
-    alloc: Global,
     terms: &Terms,
-    f: TermId,
+    t: TermId,
     arguments: &mut Vec<Argument>,
 ) -> Result<(), AllocError> {
-    if !is_there(terms, f) {
+    if !is_there(terms, t) {
         return Ok(());
     }
-    let parts = subterms(alloc, terms, &[f])?;
-    for t in parts.as_slice() {
-        if is_there(terms, *t) {
-            let node = terms.node(*t);
-            if matches!(node.head, Head::App(_) | Head::Select) {
-                for (place, term) in node.args.as_slice().iter().enumerate() {
-                    arguments.push(Argument {
-                        head: node.head,
-                        place,
-                        term: *term,
-                    })?;
-                }
-            }
+    let node = terms.node(t);
+    if matches!(node.head, Head::App(_) | Head::Select) {
+        for (place, term) in node.args.as_slice().iter().enumerate() {
+            arguments.push(Argument {
+                head: node.head,
+                place,
+                term: *term,
+            })?;
         }
     }
     Ok(())
+}
+
+// The arguments of all applications in claims.
+fn arguments_in(alloc: Global, terms: &Terms, all: &[Said]) -> Result<Vec<Argument>, AllocError> {
+    let mut arguments = Vec::new(alloc);
+    let list = terms_of(alloc, all)?;
+    if !are_there(terms, list.as_slice()) {
+        return Ok(arguments);
+    }
+    let parts = subterms(alloc, terms, list.as_slice())?;
+    for t in parts.as_slice() {
+        add_arguments(terms, *t, &mut arguments)?;
+    }
+    Ok(arguments)
+}
+
+// The numerals that applications have where one has an argument, from a least value on.
+fn slots_beside(
+    alloc: Global,
+    terms: &Terms,
+    arguments: &[Argument],
+    own: Argument,
+    least: i128,
+    count: usize,
+) -> Result<Slots, AllocError> {
+    let mut slots = Slots::new(alloc, least, count)?;
+    for other in arguments {
+        if other.head == own.head && other.place == own.place {
+            if let Some(value) = numeral_of(terms, other.term) {
+                slots.put(value, other.term);
+            }
+        }
+    }
+    Ok(slots)
 }
 
 // The numerals of the values of a number between two bounds, if an application has the number where others have each of these.
@@ -262,16 +307,11 @@ fn values_between(
     let Some(count) = count_of(lower.value, upper.value) else {
         return Ok(None);
     };
+    let mut looks: usize = 0;
     for own in arguments {
-        if own.term == lower.number {
-            let mut slots = Slots::new(alloc, lower.value, count)?;
-            for other in arguments {
-                if other.head == own.head && other.place == own.place {
-                    if let Some(value) = numeral_of(terms, other.term) {
-                        slots.put(value, other.term);
-                    }
-                }
-            }
+        if own.term == lower.number && looks < MOST_LOOKS {
+            looks = looks.saturating_add(1);
+            let slots = slots_beside(alloc, terms, arguments, *own, lower.value, count)?;
             let found = slots.all(alloc)?;
             if found.is_some() {
                 return Ok(found);
@@ -286,32 +326,44 @@ fn are_near(lower: Bound, upper: Bound) -> bool {
     lower.number == upper.number && count_of(lower.value, upper.value).is_some()
 }
 
-// A number between bounds.
-fn bounded(alloc: Global, terms: &Terms, all: &[Said]) -> Result<Option<Range>, AllocError> {
+// Pairs of a lower and an upper bound that leave a number few values.
+fn near_bounds(
+    alloc: Global,
+    terms: &Terms,
+    all: &[Said],
+) -> Result<Vec<(Bound, Bound)>, AllocError> {
     let mut lowers = Vec::new(alloc);
     let mut uppers = Vec::new(alloc);
     for one in all {
         push_bound(&mut lowers, lower_bound(terms, *one))?;
         push_bound(&mut uppers, upper_bound(terms, *one))?;
     }
-    let mut arguments = Vec::new(alloc);
+    let mut pairs = Vec::new(alloc);
     for lower in lowers.as_slice() {
         for upper in uppers.as_slice() {
-            if are_near(*lower, *upper) {
-                if arguments.as_slice().is_empty() {
-                    for one in all {
-                        add_arguments(alloc, terms, one.claim.term, &mut arguments)?;
-                    }
-                }
-                let found = values_between(alloc, terms, arguments.as_slice(), *lower, *upper)?;
-                if let Some(values) = found {
-                    return Ok(Some(Range {
-                        number: lower.number,
-                        values,
-                        cover: Cover::Bounds(lower.said, upper.said),
-                    }));
-                }
+            if are_near(*lower, *upper) && pairs.len() < MOST_PAIRS {
+                pairs.push((*lower, *upper))?;
             }
+        }
+    }
+    Ok(pairs)
+}
+
+// A number between bounds.
+fn bounded(alloc: Global, terms: &Terms, all: &[Said]) -> Result<Option<Range>, AllocError> {
+    let pairs = near_bounds(alloc, terms, all)?;
+    if pairs.as_slice().is_empty() {
+        return Ok(None);
+    }
+    let arguments = arguments_in(alloc, terms, all)?;
+    for (lower, upper) in pairs.as_slice() {
+        let found = values_between(alloc, terms, arguments.as_slice(), *lower, *upper)?;
+        if let Some(values) = found {
+            return Ok(Some(Range {
+                number: lower.number,
+                values,
+                cover: Cover::Bounds(lower.said, upper.said),
+            }));
         }
     }
     Ok(None)
@@ -497,6 +549,21 @@ fn formulas_behind(
     Ok(given)
 }
 
+// Where the hypotheses of a part come from: a fact, and claims behind it.
+fn sources_behind(
+    alloc: Global,
+    first: u32,
+    others: &[Sourced],
+) -> Result<Vec<Source>, AllocError> {
+    let mut sources = Vec::new(alloc);
+    sources.push(Source::Given(0))?;
+    sources.push(Source::Fact(first))?;
+    for one in others {
+        sources.push(one.source)?;
+    }
+    Ok(sources)
+}
+
 impl Distinction {
     // The claims about the number, or about a value.
     fn near(&self, alloc: Global, value: Option<TermId>) -> Result<Vec<Sourced>, AllocError> {
@@ -513,7 +580,7 @@ impl Distinction {
         Ok(found)
     }
 
-    // Closes the last node, on whose path a formula about the number is a fact, by a search with what is near; whether it could.
+    // Closes the last node, on whose path a formula about the number is a fact, by a search with what is near.
     fn close(
         &self,
         alloc: Global,
@@ -523,7 +590,7 @@ impl Distinction {
         formula: TermId,
         fact: u32,
         value: Option<TermId>,
-    ) -> Result<bool, AllocError>
+    ) -> Result<Attempt<()>, AllocError>
         ensures grows { Extends terms.old terms.new }
     {
         let others = self.near(alloc, value)?;
@@ -533,17 +600,15 @@ impl Distinction {
             goal: self.base.falsity,
             origin: self.origin,
         };
-        let Some(nodes) = proof_of_part(alloc, terms, &part, limits)? else {
-            return Ok(false);
-        };
-        let mut sources = Vec::new(alloc);
-        sources.push(Source::Given(0))?;
-        sources.push(Source::Fact(fact))?;
-        for one in others.as_slice() {
-            sources.push(one.source)?;
+        match search_part(alloc, terms, &part, limits, MOST_SPLITS)? {
+            Attempt::Done(nodes) => {
+                let sources = sources_behind(alloc, fact, others.as_slice())?;
+                whole.embed(alloc, nodes.as_slice(), sources.as_slice())?;
+                Ok(Attempt::Done(()))
+            }
+            Attempt::Table(numbers) => Ok(Attempt::Table(numbers)),
+            Attempt::Nothing => Ok(Attempt::Nothing),
         }
-        whole.embed(alloc, nodes.as_slice(), sources.as_slice())?;
-        Ok(true)
     }
 
     // The sum of two orders of numbers that leave nothing between them ends the path of the last node.
@@ -562,7 +627,7 @@ impl Distinction {
         whole.end(fact)
     }
 
-    // Closes the case that the number is below the first value; whether it could.
+    // Closes the case that the number is below the first value.
     fn close_first(
         &self,
         alloc: Global,
@@ -571,25 +636,47 @@ impl Distinction {
         whole: &mut Assembly,
         value: TermId,
         fact: u32,
-    ) -> Result<bool, AllocError>
+    ) -> Result<Attempt<()>, AllocError>
         ensures grows { Extends terms.old terms.new }
     {
         match self.range.cover {
             Cover::Bounds(_, _) => {
                 let bound = whole.fact_from(alloc, self.first)?;
                 self.contradict(alloc, whole, bound, fact)?;
-                Ok(true)
+                Ok(Attempt::Done(()))
             }
             Cover::Choice(_) => {
                 let Some(order) = order_of(terms, self.range.number, value)? else {
-                    return Ok(false);
+                    return Ok(Attempt::Nothing);
                 };
                 self.close(alloc, terms, limits, whole, order, fact, None)
             }
         }
     }
 
-    // Writes the cases of a value: the number is equal to it, below it, or above it. What is known where it is above; none where a case could not be closed.
+    // Closes the case that the number is below a value, behind the one before.
+    fn close_below(
+        &self,
+        alloc: Global,
+        terms: &mut Terms,
+        limits: &Limits,
+        whole: &mut Assembly,
+        value: TermId,
+        fact: u32,
+        before: Option<Passed>,
+    ) -> Result<Attempt<()>, AllocError>
+        ensures grows { Extends terms.old terms.new }
+    {
+        match before {
+            Some(passed) => {
+                self.contradict(alloc, whole, passed.above, fact)?;
+                Ok(Attempt::Done(()))
+            }
+            None => self.close_first(alloc, terms, limits, whole, value, fact),
+        }
+    }
+
+    // Writes the cases of a value: the number is equal to it, below it, or above it. What is known where it is above.
     fn write(
         &self,
         alloc: Global,
@@ -598,28 +685,27 @@ impl Distinction {
         whole: &mut Assembly,
         value: TermId,
         before: Option<Passed>,
-    ) -> Result<Option<Passed>, AllocError>
+    ) -> Result<Attempt<Passed>, AllocError>
         ensures grows { Extends terms.old terms.new }
     {
         let Some(equation) = equation_of(terms, self.range.number, value)? else {
-            return Ok(None);
+            return Ok(Attempt::Nothing);
         };
         let fork = whole.split(alloc, equation);
         let equal = whole.case(alloc, fork)?;
-        if !self.close(alloc, terms, limits, whole, equation, equal, Some(value))? {
-            return Ok(None);
+        match self.close(alloc, terms, limits, whole, equation, equal, Some(value))? {
+            Attempt::Done(_) => {}
+            Attempt::Table(numbers) => return Ok(Attempt::Table(numbers)),
+            Attempt::Nothing => return Ok(Attempt::Nothing),
         }
         let below = whole.case(alloc, fork)?;
-        match before {
-            Some(passed) => self.contradict(alloc, whole, passed.above, below)?,
-            None => {
-                if !self.close_first(alloc, terms, limits, whole, value, below)? {
-                    return Ok(None);
-                }
-            }
+        match self.close_below(alloc, terms, limits, whole, value, below, before)? {
+            Attempt::Done(_) => {}
+            Attempt::Table(numbers) => return Ok(Attempt::Table(numbers)),
+            Attempt::Nothing => return Ok(Attempt::Nothing),
         }
         let above = whole.case(alloc, fork)?;
-        Ok(Some(Passed { equation, above }))
+        Ok(Attempt::Done(Passed { equation, above }))
     }
 
     // Closes the last case: the number is above all values.
@@ -655,7 +741,7 @@ fn push_passed(all: &mut Vec<Passed>, one: Passed) -> Result<(), AllocError> {
     Ok(())
 }
 
-/// A proof of a condition by the values of a number, if one is found.
+/// What is found of a condition by the values of a number.
 #[tactic(auto, using(spv_term::proofs::ArenaLemmas::growth))]
 pub(crate) fn by_values(
     alloc: Global,
@@ -663,23 +749,25 @@ pub(crate) fn by_values(
     condition: &Condition,
     limits: &Limits,
     base: Base,
-) -> Result<Option<Assembly>, AllocError>
+) -> Result<Attempt<Assembly>, AllocError>
     ensures grows { Extends terms.old terms.new }
 {
     let Some(found) = distinguish(alloc, terms, condition, base)? else {
-        return Ok(None);
+        return Ok(Attempt::Nothing);
     };
     let mut whole = Assembly::new(alloc)?;
     let mut all = Vec::new(alloc);
     let mut before = None;
     for value in found.range.values.as_slice() {
-        let next = found.write(alloc, terms, limits, &mut whole, *value, before)?;
-        let Some(passed) = next else {
-            return Ok(None);
-        };
-        push_passed(&mut all, passed)?;
-        before = Some(passed);
+        match found.write(alloc, terms, limits, &mut whole, *value, before)? {
+            Attempt::Done(passed) => {
+                push_passed(&mut all, passed)?;
+                before = Some(passed);
+            }
+            Attempt::Table(numbers) => return Ok(Attempt::Table(numbers)),
+            Attempt::Nothing => return Ok(Attempt::Nothing),
+        }
     }
     found.close_last(alloc, &mut whole, all.as_slice())?;
-    Ok(Some(whole))
+    Ok(Attempt::Done(whole))
 }

@@ -9,8 +9,11 @@ ghost use Rattle.spv_fact_search.specs.Asking.{IsOwn};
 
 use crate::assembling::Assembly;
 use crate::cutting::{by_cuts, has_cuts};
+use crate::numbers::Numbers;
+use crate::parts::Attempt;
 use crate::ranging::{by_values, has_range};
 use crate::stages::own_copy;
+use crate::trying::{Trial, tried_near};
 use spv_atoms::ProofNode;
 use spv_search_terms::condition_copy::Base;
 use spv_term::{Condition, Terms};
@@ -18,31 +21,38 @@ use spv_trimming::testing::proof_of;
 use spv_verdicts::answers::{Decided, Limits, Verdict};
 use std::alloc::{AllocError, Global};
 
-// A proof that is put together, if it has no more splits than there may be.
-fn within(limits: &Limits, found: Option<Assembly>) -> Option<Vec<ProofNode>> {
-    let whole = found?;
-    if whole.splits() > limits.splits() {
-        return None;
+// The nodes of a proof that is put together, if it has no more splits than there may be.
+fn within(limits: &Limits, found: Attempt<Assembly>) -> Attempt<Vec<ProofNode>> {
+    match found {
+        Attempt::Done(whole) => {
+            if whole.splits() > limits.splits() {
+                Attempt::Nothing
+            } else {
+                Attempt::Done(whole.into_nodes())
+            }
+        }
+        Attempt::Table(numbers) => Attempt::Table(numbers),
+        Attempt::Nothing => Attempt::Nothing,
     }
-    Some(whole.into_nodes())
 }
 
-// The nodes of a proof by parts, if one is found.
-fn nodes_of(
+// What is found of a condition by parts: the nodes of a proof, or a table.
+fn attempted(
     alloc: Global,
     terms: &mut Terms,
     condition: &Condition,
     limits: &Limits,
     base: Base,
-) -> Result<Option<Vec<ProofNode>>, AllocError>
+) -> Result<Attempt<Vec<ProofNode>>, AllocError>
     ensures grows { Extends terms.old terms.new }
 {
-    let found = by_cuts(alloc, terms, condition, limits, base.falsity)?;
-    if found.is_some() {
-        return Ok(within(limits, found));
+    match by_cuts(alloc, terms, condition, limits, base.falsity)? {
+        Attempt::Nothing => {
+            let found = by_values(alloc, terms, condition, limits, base)?;
+            Ok(within(limits, found))
+        }
+        found => Ok(within(limits, found)),
     }
-    let found = by_values(alloc, terms, condition, limits, base)?;
-    Ok(within(limits, found))
 }
 
 // A condition in an arena of its own is proved by these nodes, if the checker accepts them.
@@ -63,6 +73,31 @@ fn tested(
             verdict: Verdict::Proved(proof),
         })),
         None => Ok(None),
+    }
+}
+
+// A condition is false in a table near to these numbers, if this is seen of it there: in an arena that has nothing but its terms, whose ids are those that
+// they have in the arena of the numbers.
+fn shown(
+    alloc: Global,
+    terms: &Terms,
+    condition: &Condition,
+    numbers: Numbers,
+) -> Result<Option<Decided>, AllocError>
+    requires given { AllBelow (length terms.now.nodes) condition.now.given }
+    requires goal { condition.now.goal.0 < length terms.now.nodes }
+    ensures { (limits : Limits) → IfOk result (λ o. IfSome o (IsDecided terms.now condition.now limits)) }
+{
+    let Some(own) = own_copy(alloc, terms, condition)? else {
+        return Ok(None);
+    };
+    match tried_near(alloc, &own.terms, &own.condition, numbers)? {
+        Trial::Shown(found) => Ok(Some(Decided {
+            terms: own.terms,
+            condition: own.condition,
+            verdict: Verdict::Unproved(found),
+        })),
+        _ => Ok(None),
     }
 }
 
@@ -93,8 +128,9 @@ pub(crate) fn decide_by_parts(
     };
     let mut own = copied.terms;
     let claim = copied.condition;
-    let Some(nodes) = nodes_of(alloc, &mut own, &claim, limits, copied.base)? else {
-        return Ok(None);
-    };
-    tested(alloc, own, claim, nodes)
+    match attempted(alloc, &mut own, &claim, limits, copied.base)? {
+        Attempt::Done(nodes) => tested(alloc, own, claim, nodes),
+        Attempt::Table(numbers) => shown(alloc, terms, condition, numbers),
+        Attempt::Nothing => Ok(None),
+    }
 }

@@ -181,9 +181,9 @@ fn staged(
     }))
 }
 
-/// The limits of a stage.
-pub(crate) fn limits_of(limits: &Limits) -> Limits {
-    let splits = limits.splits().min(MOST_SPLITS);
+/// Limits within others, with so many splits at most.
+pub(crate) fn limits_of(limits: &Limits, most: u64) -> Limits {
+    let splits = limits.splits().min(most);
     Limits::new(splits, limits.instances(), limits.pivots()).with_terms(limits.terms())
 }
 
@@ -258,8 +258,8 @@ fn proved(alloc: Global, stage: Stage, from: &Terms, proof: &Proof) -> Result<Ou
     }
 }
 
-// The numbers of a table, for what its terms become, each cut to a whole one: what a table says of differences is as true of these.
-fn numbers_of(
+/// The numbers of a table, for what its terms become, each cut to a whole one: what a table says of differences is as true of these.
+pub(crate) fn numbers_of(
     alloc: Global,
     terms: &Terms,
     table: &Table,
@@ -340,7 +340,7 @@ fn try_stage(
     let Some(stage) = staged(alloc, terms, condition, choice)? else {
         return Ok(Outcome::Nothing);
     };
-    let few = limits_of(limits);
+    let few = limits_of(limits, MOST_SPLITS);
     let Decided {
         terms: from,
         condition: _,

@@ -1,7 +1,6 @@
 use Rattle.std.proofs.Common.{rules, IsTrue}
-use Rattle.spv_fact_search.specs.Asking.{IsAsked}
 use Rattle.spv_fact_search.proofs.Asked.{given-there, formulas-asked}
-use Rattle.spv_fact_search.proofs.parts.proof_of_part.Goals as goal
+use Rattle.spv_fact_search.proofs.parts.search_part.Goals as goal
 
 pub searched-requires-clause-given : goal.searched-requires-clause-given
 searched-requires-clause-given c =
