@@ -121,8 +121,8 @@ fn renumbered(alloc: Global, step: &Step, facts: &[u32]) -> Result<Step, AllocEr
     }
 }
 
-// The number of a hypothesis at a place, from 1.
-fn number_at(place: usize) -> u32 {
+/// The number of a hypothesis at a place, from 1.
+pub(crate) fn number_at(place: usize) -> u32 {
     u32::try_from(place).unwrap_or(u32::MAX).saturating_add(1)
 }
 

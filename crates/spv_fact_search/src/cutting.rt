@@ -3,7 +3,7 @@
 
 ghost use Rattle.spv_term.specs.Arena.{Extends};
 
-use crate::assembling::{Assembly, Fork, Source, source_of};
+use crate::assembling::{Assembly, Fork, Source, number_at, source_of};
 use crate::claims::{Claim, Said, Taking, all_said, is_choice, taken_apart};
 use crate::parts::{Attempt, equation_of, formula_of, search_part};
 use spv_atoms::{ProofNode, Stated};
@@ -107,6 +107,13 @@ struct Lemma {
     is_of_numbers: bool,
     choice: Source,
     nodes: Vec<ProofNode>,
+}
+
+// What is searched through behind the cuts, and where its hypotheses come from but for the equations of the lemmas, which stand behind the others.
+#[derive(Drop)]
+struct Main {
+    part: Condition,
+    sources: Vec<Source>,
 }
 
 // The sides of an equation that a claim is, if it is one of terms that are no truths.
@@ -298,23 +305,102 @@ fn lemmas_of(
     Ok(lemmas)
 }
 
-// A condition with the equations of these lemmas as further hypotheses.
-fn with_lemmas(
-    alloc: Global,
-    condition: &Condition,
-    lemmas: &[Lemma],
-) -> Result<Condition, AllocError> {
-    let mut given = List::new(alloc);
-    for f in condition.given.as_slice() {
-        given.push(*f)?;
-    }
+// Puts the equations of lemmas behind formulas.
+fn add_equations(given: &mut List<TermId>, lemmas: &[Lemma]) -> Result<(), AllocError> {
     for lemma in lemmas {
         given.push(lemma.equation)?;
     }
-    Ok(Condition {
-        given,
-        goal: condition.goal,
-        origin: condition.origin,
+    Ok(())
+}
+
+// A condition with the equations of these lemmas as further hypotheses.
+fn with_lemmas(alloc: Global, condition: &Condition, lemmas: &[Lemma]) -> Result<Main, AllocError> {
+    let mut given = List::new(alloc);
+    let mut sources = Vec::new(alloc);
+    sources.push(Source::Given(0))?;
+    for (place, f) in condition.given.as_slice().iter().enumerate() {
+        given.push(*f)?;
+        sources.push(Source::Given(number_at(place)))?;
+    }
+    add_equations(&mut given, lemmas)?;
+    Ok(Main {
+        part: Condition {
+            given,
+            goal: condition.goal,
+            origin: condition.origin,
+        },
+        sources,
+    })
+}
+
+// Whether a claim is a choice with a cut.
+fn is_cut(cuts: &[Cut], one: Said) -> bool {
+    for cut in cuts {
+        if cut.choice.claim.term == one.claim.term && cut.choice.place == one.place {
+            return true;
+        }
+    }
+    false
+}
+
+// The claims of a condition that are no choices with cuts.
+fn uncut(alloc: Global, all: &[Said], cuts: &[Cut]) -> Result<Vec<Said>, AllocError> {
+    let mut left = Vec::new(alloc);
+    for one in all {
+        if !is_cut(cuts, *one) {
+            left.push(*one)?;
+        }
+    }
+    Ok(left)
+}
+
+// One source more.
+fn push_source(sources: &mut Vec<Source>, source: Source) -> Result<(), AllocError> {
+    sources.push(source)?;
+    Ok(())
+}
+
+// One formula more with its source, if there is one.
+fn push_formula(
+    given: &mut List<TermId>,
+    sources: &mut Vec<Source>,
+    formula: Option<TermId>,
+    source: Source,
+) -> Result<(), AllocError> {
+    if let Some(f) = formula {
+        given.push(f)?;
+        sources.push(source)?;
+    }
+    Ok(())
+}
+
+// The same with these claims in the place of the condition's own hypotheses.
+#[tactic(auto, using(spv_term::proofs::ArenaLemmas::growth))]
+fn with_claims(
+    alloc: Global,
+    terms: &mut Terms,
+    condition: &Condition,
+    claims: &[Said],
+    lemmas: &[Lemma],
+) -> Result<Main, AllocError>
+    ensures grows { Extends terms.old terms.new }
+{
+    let mut given = List::new(alloc);
+    let mut sources = Vec::new(alloc);
+    push_source(&mut sources, Source::Given(0))?;
+    for one in claims {
+        let formula = formula_of(terms, one.claim)?;
+        let source = source_of(condition, *one);
+        push_formula(&mut given, &mut sources, formula, source)?;
+    }
+    add_equations(&mut given, lemmas)?;
+    Ok(Main {
+        part: Condition {
+            given,
+            goal: condition.goal,
+            origin: condition.origin,
+        },
+        sources,
     })
 }
 
@@ -338,10 +424,10 @@ fn refute(
     whole.embed(alloc, lemma.nodes.as_slice(), sources.as_slice())
 }
 
-// The proof of a condition from those of its lemmas, and that of the condition with their equations.
+// The proof of a condition from those of its lemmas, and that of what is searched through behind the cuts, whose hypotheses come from these sources.
 fn assembled(
     alloc: Global,
-    condition: &Condition,
+    own: &[Source],
     lemmas: &[Lemma],
     nodes: &[ProofNode],
     falsity: TermId,
@@ -349,10 +435,7 @@ fn assembled(
     let mut whole = Assembly::new(alloc)?;
     let mut forks = Vec::new(alloc);
     let mut sources = Vec::new(alloc);
-    for number in 0..condition.given.len().saturating_add(1) {
-        let own = u32::try_from(number).unwrap_or(u32::MAX);
-        sources.push(Source::Given(own))?;
-    }
+    sources.extend_from_slice(own)?;
     for lemma in lemmas {
         let fork = whole.split(alloc, lemma.equation);
         forks.push(fork)?;
@@ -371,7 +454,29 @@ fn assembled(
     Ok(whole)
 }
 
-/// What is found of a condition that is searched through with its cuts at hand.
+// What is found behind the cuts.
+fn search_main(
+    alloc: Global,
+    terms: &mut Terms,
+    limits: &Limits,
+    main: &Main,
+    lemmas: &[Lemma],
+    falsity: TermId,
+) -> Result<Attempt<Assembly>, AllocError>
+    ensures grows { Extends terms.old terms.new }
+{
+    match search_part(alloc, terms, &main.part, limits, MOST_SPLITS_BEHIND)? {
+        Attempt::Done(nodes) => {
+            let sources = main.sources.as_slice();
+            let found = assembled(alloc, sources, lemmas, nodes.as_slice(), falsity)?;
+            Ok(Attempt::Done(found))
+        }
+        Attempt::Table(numbers) => Ok(Attempt::Table(numbers)),
+        Attempt::Nothing => Ok(Attempt::Nothing),
+    }
+}
+
+/// What is found of a condition that is searched through with its cuts at hand: first without the choices that have them, then with all.
 pub(crate) fn by_cuts(
     alloc: Global,
     terms: &mut Terms,
@@ -387,13 +492,12 @@ pub(crate) fn by_cuts(
     }
     let lemmas = lemmas_of(alloc, terms, condition, limits, cuts.as_slice())?;
     let list = lemmas.as_slice();
-    let whole = with_lemmas(alloc, condition, list)?;
-    match search_part(alloc, terms, &whole, limits, MOST_SPLITS_BEHIND)? {
-        Attempt::Done(nodes) => {
-            let found = assembled(alloc, condition, list, nodes.as_slice(), falsity)?;
-            Ok(Attempt::Done(found))
-        }
-        Attempt::Table(numbers) => Ok(Attempt::Table(numbers)),
-        Attempt::Nothing => Ok(Attempt::Nothing),
+    let all = all_said(alloc, terms, condition)?;
+    let left = uncut(alloc, all.as_slice(), cuts.as_slice())?;
+    let main = with_claims(alloc, terms, condition, left.as_slice(), list)?;
+    if let Attempt::Done(found) = search_main(alloc, terms, limits, &main, list, falsity)? {
+        return Ok(Attempt::Done(found));
     }
+    let main = with_lemmas(alloc, condition, list)?;
+    search_main(alloc, terms, limits, &main, list, falsity)
 }
